@@ -1,0 +1,4 @@
+pub mod Choice
+pub mod Appending
+pub mod Equal
+pub mod Clearing

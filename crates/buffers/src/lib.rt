@@ -1,0 +1,70 @@
+// Bytes appended to a lent buffer, compared, and cleared: what every crate that writes or compares text shares.
+// Its callers see to the room, which each `requires` names. Assumes nothing else.
+ghost use mathlib.Core.Path.{_≡_};
+ghost use mathlib.Core.List.{[], _∷_, _++_};
+ghost use Prim.Native.Nat.{_+_, _-_, _≤_, _<_};
+ghost use lib.ListN.{length, take, replicate};
+ghost use Rattle.buffers.specs.Wrote.{Wrote};
+ghost use Rattle.buffers.specs.Same.{same as sameBytes};
+
+// Appends a byte behind the first `at`. The answer is where the text then ends.
+pub fn put(out: &mut [u8], at: usize, b: u8) -> usize
+    requires { ⌜ at < length (now out) ⌝ }
+    ensures { λ r. ⌜ Wrote (now (out .entry)) at (now (out .exit)) r (b ∷ []) ⌝ }
+{
+    out[at] = b;
+    at + 1
+}
+
+// Appends all of s behind the first `at`. The answer is where the text then ends.
+pub fn copy(out: &mut [u8], at: usize, s: &[u8]) -> usize
+    requires { ⌜ at + length (now s) ≤ length (now out) ⌝ }
+    ensures { λ r. ⌜ Wrote (now (out .entry)) at (now (out .exit)) r (now (s .entry)) ⌝ }
+{
+    let mut i: usize = 0;
+    while i < s.len() {
+        out[at + i] = s[i];
+        i += 1;
+    }
+    at + i
+}
+
+// Are the two texts equal, byte for byte?
+pub fn same(a: &[u8], b: &[u8]) -> bool
+    ensures { λ r. ⌜ r ≡ sameBytes (now (a .entry)) (now (b .entry)) ⌝ }
+{
+    if a.len() != b.len() {
+        return false;
+    }
+    let mut i: usize = 0;
+    while i < a.len() {
+        if a[i] != b[i] {
+            return false;
+        }
+        i += 1;
+    }
+    true
+}
+
+// Zeros from `from` on.
+pub fn zero8(a: &mut [u8], from: usize)
+    requires { ⌜ from ≤ length (now a) ⌝ }
+    ensures { λ _. ⌜ now (a .exit) ≡ take from (now (a .entry)) ++ replicate (length (now (a .entry)) - from) 0 ⌝ }
+{
+    let mut i = from;
+    while i < a.len() {
+        a[i] = 0;
+        i += 1;
+    }
+}
+
+pub fn zero64(a: &mut [u64], from: usize)
+    requires { ⌜ from ≤ length (now a) ⌝ }
+    ensures { λ _. ⌜ now (a .exit) ≡ take from (now (a .entry)) ++ replicate (length (now (a .entry)) - from) 0 ⌝ }
+{
+    let mut i = from;
+    while i < a.len() {
+        a[i] = 0;
+        i += 1;
+    }
+}
