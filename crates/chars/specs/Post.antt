@@ -1,0 +1,24 @@
+-- What the inner functions promise.
+-- Assumes nothing.
+use mathlib.Core.Path.{_≡_}
+use mathlib.Core.List.{List}
+use Prim.Native.Nat.{ℕ, _+_, _-_, _≤_, _<_}
+use lib.ListN.{length, drop}
+use Rattle.chars.specs.Utf8.{charAt, utf8}
+use Rattle.chars.specs.White.{whiteAt}
+use Rattle.chars.specs.declared.Step.the-variants.{Bad}
+
+-- n bytes behind the place `at` are whole characters, or n is 0 and no character stands there
+pub record Advances (s : List ℕ) (at n : ℕ) : Type 0 where
+  pub inside : at + n ≤ length s
+  pub onward : utf8 (drop at s) ≡ utf8 (drop (at + n) s)
+  pub stuck : n ≡ 0 → charAt (drop at s) ≡ Bad
+
+-- a White_Space character of n bytes ends s
+abbrev pub EndsAt : List ℕ → ℕ → Type 0
+EndsAt s n = (0 < n) × (n ≤ length s) × (whiteAt (drop (length s - n) s) ≡ n)
+
+-- the last n bytes of s are a White_Space character, or n is 0 and s ends in none
+pub record EndsIn (s : List ℕ) (n : ℕ) : Type 0 where
+  pub some : 0 < n → EndsAt s n
+  pub none : n ≡ 0 → (m : ℕ) → EndsAt s m → ⊥
