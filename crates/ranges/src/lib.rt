@@ -1,0 +1,1 @@
+// The code points that `escape_debug` writes as numbers.
