@@ -1,3 +1,4 @@
 pub mod Reading
 pub mod Encoding
 pub mod Boundary
+pub mod Trimming
