@@ -2,3 +2,4 @@ pub mod Reading
 pub mod Encoding
 pub mod Boundary
 pub mod Trimming
+pub mod Ending

@@ -14,6 +14,7 @@ use lib.Seq.{drop-cons, drop-drop, getD-drop}
 use borrow.Author.Tests.{ltb-true, ltb-false, lt-ltb}
 use Rattle.buffers.proofs.Choice.{by-cond}
 use Rattle.chars.specs.Utf8.{low, high, charOf, charAt, after, utf8From, utf8}
+use Rattle.chars.specs.Post.{Advances}
 use Rattle.chars.specs.declared.Step.{Step}
 use Rattle.chars.specs.declared.Step.the-variants.{Char, Bad}
 
@@ -168,3 +169,26 @@ ascii-onward (suc n) [] h f = absurd (omega arith)
 ascii-onward (suc n) (a ∷ r) h f =
     char-onward (a ∷ r) a 1 (ascii-char a r (f 0 (omega arith)))
     ∙ ascii-onward n r (omega arith) (λ i l. f (suc i) (omega arith))
+
+-- ---- a step of the walk
+
+module _ (s : List ℕ) (at : ℕ) (h : at < length s) where
+  pub advance-char : (c n : ℕ) → charAt (drop at s) ≡ Char c n → Advances s at n
+  advance-char c n e = record {
+    inside = omega (arith, whole (drop at s) c n e, length-drop at s);
+    onward = char-onward (drop at s) c n e ∙ ap utf8 (drop-drop n at s);
+    stuck = λ z. absurd (omega (arith, some (drop at s) c n e));
+  }
+
+  pub advance-ascii : (n : ℕ) → 1 ≤ n → at + n ≤ length s → ((i : ℕ) → i < n → getD s (at + i) 0 < 0x80) → Advances s at n
+  advance-ascii n p l f = record {
+    inside = l;
+    onward = ascii-onward n (drop at s) (omega (arith, length-drop at s)) (λ i m. let g = f i m in omega (arith, getD-drop at s i 0)) ∙ ap utf8 (drop-drop n at s);
+    stuck = λ z. absurd (omega arith);
+  }
+
+  pub advance-one : getD s at 0 < 0x80 → Advances s at 1
+  advance-one l = advance-ascii 1 (omega arith) (omega arith) (λ i m. let e : at + i ≡ at = omega arith in omega (arith, ap (λ (k : ℕ). getD s k 0) e))
+
+  pub advance-stuck : charAt (drop at s) ≡ Bad → Advances s at 0
+  advance-stuck e = record { inside = omega arith; onward = ap (λ (k : ℕ). utf8 (drop k s)) (sym (add-zero at)); stuck = λ _. e }

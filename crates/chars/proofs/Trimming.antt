@@ -249,7 +249,7 @@ end-clean (a ∷ r) m h = go (trimStart (a ∷ r)) refl h (end-clean r)
         let z : suc (length (trimEnd r)) - m ≡ 0 = omega arith in
         let w : whiteAt (a ∷ trimEnd r) ≡ suc (length (trimEnd r)) = (rw z at (f .2)) ∙ n in
         let v : whiteAt (a ∷ r) ≡ suc (length (trimEnd r)) =
-            ap (λ (l : List ℕ). whiteAt (a ∷ l)) (k .1) ∙ white-cut (a ∷ trimEnd r) (k .0) (omega arith) (blank-starts (k .0) (k .2)) ∙ w in
+        ap (λ (l : List ℕ). whiteAt (a ∷ l)) (k .1) ∙ white-cut (a ∷ trimEnd r) (k .0) (omega arith) (blank-starts (k .0) (k .2)) ∙ w in
         trim-start-white (a ∷ r) (length (trimEnd r)) v
         ∙ ap (λ (l : List ℕ). trimStart (drop (length (trimEnd r)) l)) (k .1)
         ∙ ap trimStart (drop-at (trimEnd r) (k .0) (length (trimEnd r)) refl)

@@ -11,11 +11,14 @@ use Rattle.chars.specs.declared.Step.the-variants.{Char, Bad}
 abbrev pub within : ℕ → ℕ → ℕ → Bool
 within lo hi c = leb lo c && leb c hi
 
--- the code points of White_Space
+-- the code points of White_Space: U+0009 to 000D, 0020, and those behind ASCII
+unfoldable pub wideWhite : ℕ → Bool
+wideWhite c =
+    eqb c 0x85 || (eqb c 0xA0 || (eqb c 0x1680 || (within 0x2000 0x200A c || (eqb c 0x2028 || (eqb c 0x2029
+    || (eqb c 0x202F || (eqb c 0x205F || eqb c 0x3000)))))))
+
 unfoldable pub white : ℕ → Bool
-white c =
-    within 0x9 0xD c || (eqb c 0x20 || (eqb c 0x85 || (eqb c 0xA0 || (eqb c 0x1680 || (within 0x2000 0x200A c
-    || (eqb c 0x2028 || (eqb c 0x2029 || (eqb c 0x202F || (eqb c 0x205F || eqb c 0x3000)))))))))
+white c = within 0x9 0xD c || (eqb c 0x20 || wideWhite c)
 
 abbrev pub widthOf : Step → ℕ
 widthOf (Char c n) = cond (white c) n 0

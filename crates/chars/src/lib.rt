@@ -4,7 +4,7 @@ ghost use mathlib.Core.Path.{_≡_};
 ghost use Prim.Native.Nat.{ℕ, _+_, _≤_, _<_};
 ghost use lib.ListN.{length, getD, drop};
 ghost use Rattle.chars.specs.Utf8.{low as lowOf, high as highOf, charOf, charAt, utf8};
-ghost use Rattle.chars.specs.White.{white, whiteAt, trimStart, trimEnd, trim as trimmed, blank};
+ghost use Rattle.chars.specs.White.{within, white, wideWhite, whiteAt, trimStart, trimEnd, trim as trimmed, blank};
 ghost use Rattle.chars.specs.Post.{Advances, EndsIn};
 
 // What a text begins with.
@@ -109,4 +109,204 @@ pub fn decode_char(s: &[u8], at: usize) -> Step
         byte_at(s, at + 2),
         byte_at(s, at + 3),
     )
+}
+
+// No byte of s is above the answer.
+fn greatest(s: &[u8]) -> u8
+    ensures { λ r. ⌜ ((i : ℕ) → i < length (now (s .entry)) → getD (now (s .entry)) i 0 ≤ r) ⌝ }
+{
+    let mut top: u8 = 0;
+    let mut i: usize = 0;
+    while i < s.len() {
+        let b = s[i];
+        if top < b {
+            top = b;
+        }
+        i += 1;
+    }
+    top
+}
+
+// How many bytes from `at` on are surely whole characters: a block of ASCII, one character, or none where none stands.
+fn advance(s: &[u8], at: usize) -> usize
+    requires { ⌜ at < length (now s) ⌝ }
+    ensures { λ r. ⌜ Advances (now (s .entry)) at r ⌝ }
+{
+    if s[at] < 0x80 {
+        if s.len() - at < 32 {
+            return 1;
+        }
+        let end = at + 32;
+        if greatest(&s[at..end]) < 0x80 {
+            return 32;
+        }
+        return 1;
+    }
+    match decode_char(s, at) {
+        Step::Char(_, n) => n,
+        Step::Bad => 0,
+    }
+}
+
+// Is the text UTF-8?
+pub fn is_utf8(s: &[u8]) -> bool
+    ensures { λ r. ⌜ r ≡ utf8 (now (s .entry)) ⌝ }
+{
+    let mut at: usize = 0;
+    while at < s.len() {
+        let n = advance(s, at);
+        if n == 0 {
+            return false;
+        }
+        at += n;
+    }
+    true
+}
+
+fn is_within(lo: u32, hi: u32, c: u32) -> bool
+    ensures { λ r. ⌜ r ≡ within lo hi c ⌝ }
+{
+    if c < lo {
+        return false;
+    }
+    c <= hi
+}
+
+// Is the code point c White_Space? ASCII is decided first.
+pub fn is_white(c: u32) -> bool
+    ensures { λ r. ⌜ r ≡ white c ⌝ }
+{
+    if is_within(0x9, 0xd, c) {
+        return true;
+    }
+    if c == 0x20 {
+        return true;
+    }
+    if c < 0x85 {
+        return false;
+    }
+    is_wide_white(c)
+}
+
+// The same of a code point that is not ASCII.
+fn is_wide_white(c: u32) -> bool
+    ensures { λ r. ⌜ r ≡ wideWhite c ⌝ }
+{
+    if c == 0x85 {
+        return true;
+    }
+    if c == 0xa0 {
+        return true;
+    }
+    if c == 0x1680 {
+        return true;
+    }
+    if is_within(0x2000, 0x200a, c) {
+        return true;
+    }
+    if c == 0x2028 {
+        return true;
+    }
+    if c == 0x2029 {
+        return true;
+    }
+    if c == 0x202f {
+        return true;
+    }
+    if c == 0x205f {
+        return true;
+    }
+    c == 0x3000
+}
+
+// How many bytes the White_Space character takes that the text begins with; 0 where it begins with none.
+pub fn white_width(s: &[u8]) -> usize
+    ensures { λ r. ⌜ r ≡ whiteAt (now (s .entry)) ⌝ }
+    ensures { λ r. ⌜ r ≤ length (now (s .entry)) ⌝ }
+{
+    match decode_char(s, 0) {
+        Step::Char(c, n) => {
+            if is_white(c) {
+                return n;
+            }
+            0
+        }
+        Step::Bad => 0,
+    }
+}
+
+// How many bytes the White_Space character takes that the text ends in; 0 where it ends in none. None takes more than three.
+fn white_end(s: &[u8]) -> usize
+    ensures { λ r. ⌜ EndsIn (now (s .entry)) r ⌝ }
+{
+    let n = s.len();
+    if n < 1 {
+        return 0;
+    }
+    let last = s[n - 1];
+    if last < 0x80 {
+        if is_white(last as u32) {
+            return 1;
+        }
+        return 0;
+    }
+    if n < 2 {
+        return 0;
+    }
+    let second = n - 2;
+    if white_width(&s[second..]) == 2 {
+        return 2;
+    }
+    if n < 3 {
+        return 0;
+    }
+    let third = n - 3;
+    if white_width(&s[third..]) == 3 {
+        return 3;
+    }
+    0
+}
+
+// Without the White_Space at the start.
+pub fn trim_start(s: &[u8]) -> &[u8]
+    ensures { λ r. ⌜ now r ≡ trimStart (now (s .entry)) ⌝ }
+{
+    let mut t = s;
+    loop {
+        let n = white_width(t);
+        if n == 0 {
+            return t;
+        }
+        t = &t[n..];
+    }
+}
+
+// Without the White_Space at the end.
+pub fn trim_end(s: &[u8]) -> &[u8]
+    ensures { λ r. ⌜ now r ≡ trimEnd (now (s .entry)) ⌝ }
+{
+    let mut t = s;
+    loop {
+        let n = white_end(t);
+        if n == 0 {
+            return t;
+        }
+        let end = t.len() - n;
+        t = &t[..end];
+    }
+}
+
+// Without the White_Space at both ends: `str::trim`.
+pub fn trim(s: &[u8]) -> &[u8]
+    ensures { λ r. ⌜ now r ≡ trimmed (now (s .entry)) ⌝ }
+{
+    trim_end(trim_start(s))
+}
+
+// Is there nothing but White_Space?
+pub fn is_blank(s: &[u8]) -> bool
+    ensures { λ r. ⌜ r ≡ blank (now (s .entry)) ⌝ }
+{
+    let t = trim_start(s);
+    t.len() == 0
 }
