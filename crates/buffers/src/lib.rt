@@ -46,25 +46,26 @@ pub fn same(a: &[u8], b: &[u8]) -> bool
     true
 }
 
-// Zeros from `from` on.
-pub fn zero8(a: &mut [u8], from: usize)
-    requires { ⌜ from ≤ length (now a) ⌝ }
-    ensures { λ _. ⌜ now (a .exit) ≡ take from (now (a .entry)) ++ replicate (length (now (a .entry)) - from) 0 ⌝ }
+// Zeros from `from` on, in bytes.
+pub fn zero8(bytes: &mut [u8], from: usize)
+    requires { ⌜ from ≤ length (now bytes) ⌝ }
+    ensures { λ _. ⌜ now (bytes .exit) ≡ take from (now (bytes .entry)) ++ replicate (length (now (bytes .entry)) - from) 0 ⌝ }
 {
     let mut i = from;
-    while i < a.len() {
-        a[i] = 0;
+    while i < bytes.len() {
+        bytes[i] = 0;
         i += 1;
     }
 }
 
-pub fn zero64(a: &mut [u64], from: usize)
-    requires { ⌜ from ≤ length (now a) ⌝ }
-    ensures { λ _. ⌜ now (a .exit) ≡ take from (now (a .entry)) ++ replicate (length (now (a .entry)) - from) 0 ⌝ }
+// The same in numbers.
+pub fn zero64(numbers: &mut [u64], from: usize)
+    requires { ⌜ from ≤ length (now numbers) ⌝ }
+    ensures { λ _. ⌜ now (numbers .exit) ≡ take from (now (numbers .entry)) ++ replicate (length (now (numbers .entry)) - from) 0 ⌝ }
 {
     let mut i = from;
-    while i < a.len() {
-        a[i] = 0;
+    while i < numbers.len() {
+        numbers[i] = 0;
         i += 1;
     }
 }

@@ -1,3 +1,5 @@
+-- `buffers::put` meets its contract: one byte is stored behind the text.
+-- Assumes nothing.
 use denote.Ref.{now}
 use Rattle.buffers.proofs.Appending.{one}
 use borrow.Author.Needs.{needs}

@@ -1,3 +1,5 @@
+-- `buffers::same` meets its contract. The loop's invariant: the rests are equal exactly where the texts are.
+-- Assumes nothing.
 use native.Mathlib.Omega.{arith}
 use borrow.Author.Needs.{needs}
 use mathlib.Core.Path.{_≡_, refl, sym, _∙_}

@@ -1,3 +1,5 @@
+-- `buffers::zero64` meets its contract. The loop's invariant: the first i are the old ones up to `from`, then zeros.
+-- Assumes nothing.
 use mathlib.Core.Path.{_≡_}
 use mathlib.Core.List.{_++_}
 use Prim.Native.Nat.{ℕ, _+_, _-_, _≤_}
@@ -8,19 +10,19 @@ use Rattle.buffers.proofs.zero64.Statement.{statement}
 use Rattle.buffers.proofs.zero64.Tie as tie
 
 abbrev Inv-loop : tie.InvT-loop
-Inv-loop a₀ from i₀ a i = (from ≤ i) × (i ≤ length a) × (length a ≡ length a₀) × (take i a ≡ take from a₀ ++ replicate (i - from) 0)
+Inv-loop numbers₀ from i₀ numbers i = (from ≤ i) × (i ≤ length numbers) × (length numbers ≡ length numbers₀) × (take i numbers ≡ take from numbers₀ ++ replicate (i - from) 0)
 
 abbrev μ-loop : tie.MeasureT-loop
-μ-loop a₀ from i₀ a i = length a - i
+μ-loop numbers₀ from i₀ numbers i = length numbers - i
 
 loop-holds : tie.Need-loop-holds Inv-loop μ-loop
-loop-holds c = (omega arith, omega arith, omega arith, zero-none (c .args .from) (c .args .a .now))
+loop-holds c = (omega arith, omega arith, omega arith, zero-none (c .args .from) (c .args .numbers .now))
 
-mul-a : tie.Need-mul-a Inv-loop μ-loop
-mul-a c = record { fits = omega (arith, c .before .before .good .0 .1) }
+mul-numbers : tie.Need-mul-numbers Inv-loop μ-loop
+mul-numbers c = record { fits = omega (arith, c .before .before .good .0 .1) }
 
-slice-write-a : tie.Need-slice-write-a Inv-loop μ-loop
-slice-write-a c = omega arith
+slice-write-numbers : tie.Need-slice-write-numbers Inv-loop μ-loop
+slice-write-numbers c = omega arith
 
 add-i : tie.Need-add-i Inv-loop μ-loop
 add-i c = omega arith
@@ -32,7 +34,7 @@ loop-again : tie.Need-loop-again Inv-loop μ-loop
 loop-again c =
     let l = c .before .loop in
     let a = c .before .before .args in
-    (omega arith, simp length-set (omega arith), simp length-set (omega arith), zero-more (a .from) (l .i) (l .a) (a .a .now) (omega arith) (omega arith) (l .inv .3))
+    (omega arith, simp length-set (omega arith), simp length-set (omega arith), zero-more (a .from) (l .i) (l .numbers) (a .numbers .now) (omega arith) (omega arith) (l .inv .3))
 
 same-length : tie.Need-same-length Inv-loop μ-loop
 same-length c = c .before .loop .inv .2
@@ -41,7 +43,7 @@ returns : tie.Need-returns Inv-loop μ-loop
 returns c =
     let l = c .before .loop in
     let a = c .before .before .args in
-    zero-all (a .from) (l .i) (l .a) (a .a .now) (omega arith) (omega arith) (l .inv .3)
+    zero-all (a .from) (l .i) (l .numbers) (a .numbers .now) (omega arith) (omega arith) (l .inv .3)
 
 pub zero64-spec : {M : Type 1} → statement M
-zero64-spec = tie.close (tie.spec Inv-loop μ-loop loop-holds mul-a slice-write-a add-i loop-less loop-again same-length returns)
+zero64-spec = tie.close (tie.spec Inv-loop μ-loop loop-holds mul-numbers slice-write-numbers add-i loop-less loop-again same-length returns)

@@ -1,3 +1,5 @@
+-- `buffers::zero8` meets its contract. The loop's invariant: the first i are the old ones up to `from`, then zeros.
+-- Assumes nothing.
 use mathlib.Core.Path.{_≡_}
 use mathlib.Core.List.{_++_}
 use Prim.Native.Nat.{ℕ, _+_, _-_, _≤_}
@@ -8,16 +10,16 @@ use Rattle.buffers.proofs.zero8.Statement.{statement}
 use Rattle.buffers.proofs.zero8.Tie as tie
 
 abbrev Inv-loop : tie.InvT-loop
-Inv-loop a₀ from i₀ a i = (from ≤ i) × (i ≤ length a) × (length a ≡ length a₀) × (take i a ≡ take from a₀ ++ replicate (i - from) 0)
+Inv-loop bytes₀ from i₀ bytes i = (from ≤ i) × (i ≤ length bytes) × (length bytes ≡ length bytes₀) × (take i bytes ≡ take from bytes₀ ++ replicate (i - from) 0)
 
 abbrev μ-loop : tie.MeasureT-loop
-μ-loop a₀ from i₀ a i = length a - i
+μ-loop bytes₀ from i₀ bytes i = length bytes - i
 
 loop-holds : tie.Need-loop-holds Inv-loop μ-loop
-loop-holds c = (omega arith, omega arith, omega arith, zero-none (c .args .from) (c .args .a .now))
+loop-holds c = (omega arith, omega arith, omega arith, zero-none (c .args .from) (c .args .bytes .now))
 
-slice-write-a : tie.Need-slice-write-a Inv-loop μ-loop
-slice-write-a c = omega arith
+slice-write-bytes : tie.Need-slice-write-bytes Inv-loop μ-loop
+slice-write-bytes c = omega arith
 
 add-i : tie.Need-add-i Inv-loop μ-loop
 add-i c = omega arith
@@ -29,7 +31,7 @@ loop-again : tie.Need-loop-again Inv-loop μ-loop
 loop-again c =
     let l = c .before .loop in
     let a = c .before .before .args in
-    (omega arith, simp length-set (omega arith), simp length-set (omega arith), zero-more (a .from) (l .i) (l .a) (a .a .now) (omega arith) (omega arith) (l .inv .3))
+    (omega arith, simp length-set (omega arith), simp length-set (omega arith), zero-more (a .from) (l .i) (l .bytes) (a .bytes .now) (omega arith) (omega arith) (l .inv .3))
 
 same-length : tie.Need-same-length Inv-loop μ-loop
 same-length c = c .before .loop .inv .2
@@ -38,7 +40,7 @@ returns : tie.Need-returns Inv-loop μ-loop
 returns c =
     let l = c .before .loop in
     let a = c .before .before .args in
-    zero-all (a .from) (l .i) (l .a) (a .a .now) (omega arith) (omega arith) (l .inv .3)
+    zero-all (a .from) (l .i) (l .bytes) (a .bytes .now) (omega arith) (omega arith) (l .inv .3)
 
 pub zero8-spec : {M : Type 1} → statement M
-zero8-spec = tie.close (tie.spec Inv-loop μ-loop loop-holds slice-write-a add-i loop-less loop-again same-length returns)
+zero8-spec = tie.close (tie.spec Inv-loop μ-loop loop-holds slice-write-bytes add-i loop-less loop-again same-length returns)

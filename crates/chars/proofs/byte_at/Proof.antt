@@ -1,3 +1,5 @@
+-- `chars::byte_at` meets its contract: a byte in the list, or 0 behind it.
+-- Assumes nothing.
 use native.Mathlib.Omega.{arith}
 use mathlib.Core.Path.{sym, refl}
 use lib.ListN.{List·getD-eq-default}

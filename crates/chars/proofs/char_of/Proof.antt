@@ -1,3 +1,5 @@
+-- `chars::char_of` meets its contract: each return follows from the tests that led there.
+-- Assumes nothing.
 use borrow.Author.Tests.{lt-ltb, le-ltb}
 use Rattle.chars.specs.Utf8.{charOf}
 use borrow.Author.Needs.{needs}

@@ -1,3 +1,5 @@
+-- `chars::low` meets its contract: the least second byte, by its two exceptions.
+-- Assumes nothing.
 use borrow.Author.Tests.{eq-eqb, ne-eqb}
 use native.Mathlib.Omega.{arith}
 use Rattle.chars.specs.Utf8.{low}
