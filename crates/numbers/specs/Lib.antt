@@ -1,0 +1,5 @@
+pub mod Grammar
+pub mod Digits
+pub mod Twos
+pub mod Integer
+pub mod Decimal
