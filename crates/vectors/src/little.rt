@@ -1,0 +1,38 @@
+// Little-endian numbers in a text; past its end stand zeros.
+ghost use Prim.Native.Nat.{_<_};
+
+pub fn byte(s: &[u8], at: usize) -> u64
+    ensures { λ r. ⌜ r < 256 ⌝ }
+{
+    if at < s.len() {
+        return wide(s[at]);
+    }
+    0
+}
+
+fn wide(b: u8) -> u64
+    ensures { λ r. ⌜ r < 256 ⌝ }
+{
+    b as u64
+}
+
+// The place `by` further, or `at` where that would wrap.
+fn along(at: usize, by: usize) -> usize {
+    std::num::wrapping_add_usize(at, by)
+}
+
+pub fn two(s: &[u8], at: usize) -> u64
+    ensures { λ r. ⌜ r < 65536 ⌝ }
+{
+    byte(s, at) + byte(s, along(at, 1)) * 256
+}
+
+pub fn four(s: &[u8], at: usize) -> u64
+    ensures { λ r. ⌜ r < 4294967296 ⌝ }
+{
+    two(s, at) + two(s, along(at, 2)) * 65_536
+}
+
+pub fn eight(s: &[u8], at: usize) -> u64 {
+    four(s, at) + four(s, along(at, 4)) * 4_294_967_296
+}

@@ -1,0 +1,71 @@
+//! One vector file being made.
+
+use std::collections::{BTreeMap, BTreeSet};
+
+/// What a replaying program's buffers must hold.
+pub const LONGEST: usize = 70_000;
+/// What a vector file may reach.
+const LARGEST: usize = 1_500_000;
+
+#[derive(Default)]
+pub struct Cases {
+    seen: BTreeSet<(u8, Vec<u8>)>,
+    count: u32,
+    body: Vec<u8>,
+    longest: (usize, usize),
+    /// How often each refusal number is an answer.
+    refusals: BTreeMap<u8, usize>,
+}
+
+impl Cases {
+    /// False where the case is there already: it is not written again.
+    pub fn add(&mut self, op: u8, input: &[u8], answer: &[u8]) -> bool {
+        assert!(input.len() <= LONGEST && answer.len() <= LONGEST, "a case is too long");
+        if !self.seen.insert((op, input.to_vec())) {
+            return false;
+        }
+        self.count += 1;
+        self.longest = (self.longest.0.max(input.len()), self.longest.1.max(answer.len()));
+        self.body.push(op);
+        for part in [input, answer] {
+            self.body.extend((part.len() as u32).to_le_bytes());
+            self.body.extend(part);
+        }
+        true
+    }
+
+    /// A case whose answer is this refusal.
+    pub fn refused(&mut self, op: u8, input: &[u8], number: u8, answer: &[u8]) {
+        if self.add(op, input, answer) {
+            *self.refusals.entry(number).or_default() += 1;
+        }
+    }
+
+    /// Fails where one of these refusals is not met often enough to tell much.
+    pub fn must_refuse(&self, numbers: impl IntoIterator<Item = u8>, times: usize) {
+        for number in numbers {
+            let met = self.refusals.get(&number).copied().unwrap_or(0);
+            assert!(met >= times, "refusal {number} is met only {met} times");
+        }
+    }
+
+    pub fn bytes(&self) -> Vec<u8> {
+        let mut out = self.count.to_le_bytes().to_vec();
+        out.extend(&self.body);
+        assert!(out.len() <= LARGEST, "a vector file of {} bytes is too large", out.len());
+        out
+    }
+
+    pub fn summary(&self) -> String {
+        let (input, answer) = self.longest;
+        let size = self.body.len() + 4;
+        let mut out = format!(
+            "{} cases, {size} bytes, longest input {input}, longest answer {answer}",
+            self.count
+        );
+        for (number, times) in &self.refusals {
+            out += &format!(", {number}: {times}");
+        }
+        out
+    }
+}
