@@ -3,6 +3,7 @@
 // and an answer, each behind its length (u32). Numbers are little-endian; vectors/README.md has the ops.
 // Input that is cut short or too long for the buffers ends the replay and is told.
 mod chars_cases;
+mod cuts_cases;
 mod little;
 mod numbers_cases;
 
@@ -61,6 +62,7 @@ fn agrees(group: usize, op: usize, input: &[u8], answer: &[u8]) -> bool {
     match group {
         1 => chars_cases::agrees(op, input, answer),
         2 => numbers_cases::agrees(op, input, answer),
+        3 => cuts_cases::agrees(op, input, answer),
         _ => false,
     }
 }
