@@ -1,5 +1,5 @@
--- The code points that `escape_debug` writes as \u{..} only as first character, as ranges.
--- Assumes nothing.
+-- The code points that `escape_debug` writes as \u{..} only as the first character of a text, as ranges.
+-- Assumes nothing. Written by tools/escape_tables with rustc 1.95.0 (59807616e 2026-04-14).
 use mathlib.Core.List.{List, [], _∷_}
 use Prim.Native.Nat.{ℕ}
 

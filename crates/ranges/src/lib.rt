@@ -1,1 +1,51 @@
-// The code points that `escape_debug` writes as numbers.
+// The code points that `escape_debug` writes as numbers, found by binary search.
+// Refuses nothing. `in_ranges` assumes that its table goes up, as its `requires` says; the two tables here do.
+pub mod tables;
+
+ghost use mathlib.Core.Path.{_≡_};
+ghost use Prim.Native.Nat.{ℕ, _≤_, _<_};
+ghost use lib.ListN.{getD, length};
+ghost use Rattle.ranges.specs.Ranges.{member, Ascending};
+ghost use Rattle.ranges.specs.EscapedAnywhere.{escapedAnywhere};
+ghost use Rattle.ranges.specs.FirstOnly.{firstOnly};
+
+// How many boundaries of the table are at most c.
+fn boundaries_passed(table: &[u32], c: u32) -> usize
+    requires { ⌜ Ascending (now table) ⌝ }
+    ensures within { λ r. ⌜ r ≤ length (now (table .entry)) ⌝ }
+    ensures below { λ r. ⌜ ((k : ℕ) → k < r → getD (now (table .entry)) k 0 ≤ c) ⌝ }
+    ensures above { λ r. ⌜ ((k : ℕ) → r ≤ k → k < length (now (table .entry)) → c < getD (now (table .entry)) k 0) ⌝ }
+{
+    let mut lo = 0;
+    let mut hi = table.len();
+    while lo < hi {
+        let mid = lo + ((hi - lo) >> 1);
+        if table[mid] <= c {
+            lo = mid + 1;
+        } else {
+            hi = mid;
+        }
+    }
+    lo
+}
+
+// Is c in one of the table's ranges? Behind a start and before its end an odd number of boundaries is passed.
+pub fn in_ranges(table: &[u32], c: u32) -> bool
+    requires { ⌜ Ascending (now table) ⌝ }
+    ensures { λ r. ⌜ r ≡ member (now (table .entry)) c ⌝ }
+{
+    boundaries_passed(table, c) % 2 == 1
+}
+
+// For a few code points: each call lays the whole table on the stack. Who asks for many lends it once to `in_ranges`.
+pub fn in_escaped_anywhere(c: u32) -> bool
+    ensures { λ r. ⌜ r ≡ member escapedAnywhere c ⌝ }
+{
+    in_ranges(&tables::ESCAPED_ANYWHERE, c)
+}
+
+pub fn in_first_only(c: u32) -> bool
+    ensures { λ r. ⌜ r ≡ member firstOnly c ⌝ }
+{
+    in_ranges(&tables::FIRST_ONLY, c)
+}
