@@ -16,7 +16,7 @@ use Rattle.escapes.specs.Unescape.{hexDigit, andThen, digitsFrom, digits
 use Rattle.escapes.specs.Walk.{bracesOf, braces, unnamed, moreDigits, numbered}
 use Rattle.escapes.specs.declared.Escape.the-variants.{Verbatim}
 
-abbrev Reads : Type 0
+abbrev pub Reads : Type 0
 Reads = List ℕ → Option ℕ
 
 -- the braces as the definition has them
@@ -29,7 +29,7 @@ braces-named r = go (braced r)
     go none = refl
 
 -- a byte that is no } is read
-next : (f g : Reads) (n b : ℕ) (r : List ℕ) → (b ≡ 125 → ⊥) → ((h : List ℕ) → f (b ∷ h) ≡ g h) → braces f n (b ∷ r) ≡ braces g (n + 1) r
+pub next : (f g : Reads) (n b : ℕ) (r : List ℕ) → (b ≡ 125 → ⊥) → ((h : List ℕ) → f (b ∷ h) ≡ g h) → braces f n (b ∷ r) ≡ braces g (n + 1) r
 unfolding braces braced
 next f g n b r h e = rw (ne-eqb b 125 h) (go (braced r))
   where
@@ -40,12 +40,12 @@ next f g n b r h e = rw (ne-eqb b 125 h) (go (braced r))
     go (some body) = ap₂ charOr (e body) (along (suc (length body)))
     go none = ap Verbatim (along (length r))
 
-close : (f : Reads) (n : ℕ) (r : List ℕ) → braces f n (125 ∷ r) ≡ charOr (f []) (n + 1)
+pub close : (f : Reads) (n : ℕ) (r : List ℕ) → braces f n (125 ∷ r) ≡ charOr (f []) (n + 1)
 unfolding braces braced
 close f n r = refl
 
 -- readings that agree behind the first byte
-same-first : (f g : Reads) (n b : ℕ) (r : List ℕ) → f [] ≡ g [] → ((h : List ℕ) → f (b ∷ h) ≡ g (b ∷ h)) → braces f n (b ∷ r) ≡ braces g n (b ∷ r)
+pub same-first : (f g : Reads) (n b : ℕ) (r : List ℕ) → f [] ≡ g [] → ((h : List ℕ) → f (b ∷ h) ≡ g (b ∷ h)) → braces f n (b ∷ r) ≡ braces g n (b ∷ r)
 unfolding braces braced
 same-first f g n b r e e' = go (eqb b 125) (braced r)
   where
@@ -117,7 +117,7 @@ module _ (b : ℕ) where
       go [] = refl
       go (x ∷ l) = refl
 
-  first-other : (b ≡ 95 → ⊥) → (b ≡ 43 → ⊥) → (h : List ℕ) → named (b ∷ h) ≡ numbered false 0 (b ∷ h)
+  pub first-other : (b ≡ 95 → ⊥) → (b ≡ 43 → ⊥) → (h : List ℕ) → named (b ∷ h) ≡ numbered false 0 (b ∷ h)
   unfolding named numbered withoutUnderscore
   first-other n p h = rw (ne-eqb b 95 n, ne-eqb b 43 p)
 

@@ -5,3 +5,5 @@ pub mod Escapes
 pub mod Unescaping
 pub mod Progress
 pub mod Entry
+pub mod Cedar
+pub mod Examples
