@@ -1,4 +1,4 @@
-// Little-endian numbers in a text; past its end stand zeros.
+// Little-endian numbers in a text, past whose end stand zeros; and the start of a text.
 ghost use Prim.Native.Nat.{_<_};
 
 pub fn byte(s: &[u8], at: usize) -> u64
@@ -35,4 +35,12 @@ pub fn four(s: &[u8], at: usize) -> u64
 
 pub fn eight(s: &[u8], at: usize) -> u64 {
     four(s, at) + four(s, along(at, 4)) * 4_294_967_296
+}
+
+// The first n bytes, or all where there are fewer.
+pub fn prefix(s: &[u8], n: usize) -> &[u8] {
+    if n < s.len() {
+        return &s[..n];
+    }
+    s
 }

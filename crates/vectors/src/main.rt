@@ -4,6 +4,7 @@
 // Input that is cut short or too long for the buffers ends the replay and is told.
 mod chars_cases;
 mod cuts_cases;
+mod escapes_cases;
 mod little;
 mod numbers_cases;
 
@@ -63,6 +64,7 @@ fn agrees(group: usize, op: usize, input: &[u8], answer: &[u8]) -> bool {
         1 => chars_cases::agrees(op, input, answer),
         2 => numbers_cases::agrees(op, input, answer),
         3 => cuts_cases::agrees(op, input, answer),
+        4 => escapes_cases::agrees(op, input, answer),
         _ => false,
     }
 }
