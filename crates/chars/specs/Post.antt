@@ -3,10 +3,15 @@
 use mathlib.Core.Path.{_≡_}
 use mathlib.Core.List.{List}
 use Prim.Native.Nat.{ℕ, _+_, _-_, _≤_, _<_}
-use lib.ListN.{length, drop}
+use lib.ListN.{length, getD, drop}
 use Rattle.chars.specs.Utf8.{charAt, utf8}
 use Rattle.chars.specs.White.{whiteAt}
 use Rattle.chars.specs.declared.Step.the-variants.{Bad}
+
+-- the bytes from `at` to `end` are ASCII
+pub record Plain (s : List ℕ) (at end : ℕ) : Type 0 where
+  pub forward : at ≤ end
+  pub ascii : (i : ℕ) → at ≤ i → i < end → getD s i 0 < 128
 
 -- n bytes behind the place `at` are whole characters, or n is 0 and no character stands there
 pub record Advances (s : List ℕ) (at n : ℕ) : Type 0 where

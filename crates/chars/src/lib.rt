@@ -5,7 +5,7 @@ ghost use Prim.Native.Nat.{ℕ, _+_, _≤_, _<_};
 ghost use lib.ListN.{length, getD, drop};
 ghost use Rattle.chars.specs.Utf8.{low as lowOf, high as highOf, charOf, charAt, utf8};
 ghost use Rattle.chars.specs.White.{within, white, wideWhite, whiteAt, trimStart, trimEnd, trim as trimmed, blank};
-ghost use Rattle.chars.specs.Post.{Advances, EndsIn};
+ghost use Rattle.chars.specs.Post.{Plain, Advances, EndsIn};
 
 // What a text begins with.
 pub enum Step {
@@ -127,20 +127,86 @@ fn greatest(s: &[u8]) -> u8
     top
 }
 
-// How many bytes from `at` on are surely whole characters: a block of ASCII, one character, or none where none stands.
+// Where the ASCII bytes from `at` on end, or `limit` where none ends them before it.
+fn plain_end(s: &[u8], at: usize, limit: usize) -> usize
+    requires { ⌜ (at ≤ limit) × (limit ≤ length (now s)) ⌝ }
+    ensures { λ r. ⌜ Plain (now (s .entry)) at r × (r ≤ limit) ⌝ }
+{
+    let mut i = at;
+    while i < limit {
+        if 0x7f < s[i] {
+            return i;
+        }
+        i += 1;
+    }
+    i
+}
+
+// The same by blocks of 64 bytes: where the first block starts that is not all ASCII, or fewer than 64 bytes are left.
+fn blocks_end(s: &[u8], at: usize) -> usize
+    requires { ⌜ at ≤ length (now s) ⌝ }
+    ensures { λ r. ⌜ Plain (now (s .entry)) at r × (r ≤ length (now (s .entry))) ⌝ }
+{
+    let mut i = at;
+    while 64 <= s.len() - i {
+        let end = i + 64;
+        if 0x7f < greatest(&s[i..end]) {
+            return i;
+        }
+        i = end;
+    }
+    i
+}
+
+// Behind an ASCII byte: short runs byte by byte, and blocks only where a run is long.
+fn ascii_end(s: &[u8], at: usize) -> usize
+    requires { ⌜ at < length (now s) ⌝ }
+    ensures { λ r. ⌜ Plain (now (s .entry)) at r × (r ≤ length (now (s .entry))) ⌝ }
+{
+    let n = s.len();
+    if n - at < 16 {
+        return plain_end(s, at, n);
+    }
+    let near = at + 16;
+    let first = plain_end(s, at, near);
+    if first < near {
+        return first;
+    }
+    plain_end(s, blocks_end(s, near), n)
+}
+
+// The width of the two-byte character at a place whose first byte a is past ASCII and below 0xe0; 0 where none stands there.
+fn two_bytes(s: &[u8], at: usize) -> usize
+    requires { ⌜ (at < length (now s)) × (128 ≤ getD (now s) at 0) × (getD (now s) at 0 < 224) ⌝ }
+    ensures { λ r. ⌜ Advances (now (s .entry)) at r ⌝ }
+{
+    if s[at] < 0xc2 {
+        return 0;
+    }
+    if s.len() - at < 2 {
+        return 0;
+    }
+    let b = s[at + 1];
+    if b < 0x80 {
+        return 0;
+    }
+    if 0xbf < b {
+        return 0;
+    }
+    2
+}
+
+// How many bytes from `at` on are surely whole characters: a run of ASCII, one character, or none where none stands.
 fn advance(s: &[u8], at: usize) -> usize
     requires { ⌜ at < length (now s) ⌝ }
     ensures { λ r. ⌜ Advances (now (s .entry)) at r ⌝ }
 {
-    if s[at] < 0x80 {
-        if s.len() - at < 32 {
-            return 1;
-        }
-        let end = at + 32;
-        if greatest(&s[at..end]) < 0x80 {
-            return 32;
-        }
-        return 1;
+    let a = s[at];
+    if a < 0x80 {
+        return ascii_end(s, at) - at;
+    }
+    if a < 0xe0 {
+        return two_bytes(s, at);
     }
     match decode_char(s, at) {
         Step::Char(_, n) => n,

@@ -1,5 +1,5 @@
--- How the code walks a text: what its inner functions promise. No rule of document 01 stands here: each of these is proved equal to
--- what `Unescape` says (`proofs/Braces`, `proofs/Unescaping`).
+-- How the code walks a text: what its inner functions promise. No rule of document 01 stands here: the laws that tie these to `Unescape`
+-- are in `proofs/Braces` (`braces-named`), `proofs/Escapes` (`short-code`) and `proofs/Unescaping` (`unescape-run`).
 -- Assumes nothing.
 use mathlib.Core.Bool.{Bool, true, false, cond}
 use mathlib.Core.List.{List, [], _∷_}

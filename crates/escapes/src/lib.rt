@@ -278,7 +278,7 @@ fn unescape_into(out: &mut [u8], at: usize, s: &[u8]) -> usize
             i = stop;
             continue;
         }
-        // the short escapes are by far the most: here they cost one look into a table
+        // a short escape costs one look into a table here, and no `Escape` is made
         let code = short_at(s, i + 1);
         if code < 128 {
             out[end] = code;
