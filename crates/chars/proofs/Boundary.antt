@@ -11,7 +11,7 @@ use lib.Dec.{ltb}
 use lib.ListN.{length, getD, take, drop, take-append-drop, length-take}
 use lib.Seq.{getD-drop, length-take-le}
 use borrow.Author.Tests.{ltb-true, lt-ltb, le-ltb}
-use Rattle.buffers.proofs.Choice.{or-cases, or-left, or-right}
+use Rattle.buffers.proofs.Choice.{both-arms, or-cases, or-left, or-right}
 use Rattle.chars.specs.Utf8.{low, high, charOf, charAt, after, utf8From, utf8, starts}
 use Rattle.chars.specs.declared.Step.{Step}
 use Rattle.chars.specs.declared.Step.the-variants.{Char, Bad}
@@ -62,6 +62,13 @@ module _ (a b c d : ℕ) where
   fourth-off : starts d ≡ true → charOf a b c d ≡ charOf a b c 0
   unfolding charOf
   fourth-off h = rw (out 0x80 0xBF d _ (starts-cases d h))
+
+-- past ASCII a second byte out of its range leaves no character
+pub second-bad : (a b c d : ℕ) → 0x80 ≤ a → (b < 0x80) ⊎ (0xBF < b) → charOf a b c d ≡ Bad
+unfolding charOf
+second-bad a b c d h o =
+    rw (le-ltb a 0x80 h, out (low a) (high a) b _ (beyond a b o))
+    (both-arms (λ (t : Step). t ≡ Bad) (ltb a 0xC2) refl (both-arms (λ (t : Step). t ≡ Bad) (ltb 0xF4 a) refl refl))
 
 -- what follows does not change the character that a text begins with
 pub char-cut : (x w : List ℕ) → 0 < length x → starts (getD w 0 0) ≡ true → charAt (x ++ w) ≡ charAt x

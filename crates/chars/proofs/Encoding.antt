@@ -155,7 +155,7 @@ decoded : (a b c d code n : ℕ) → charOf a b c d ≡ Char code n → Is a b c
 decoded a b c d code n e = rw e at (is a b c d)
 
 -- the other way: each form of a scalar value
-low-le : (a b : ℕ) → (a ≡ 0xE0 → 0xA0 ≤ b) → (a ≡ 0xF0 → 0x90 ≤ b) → 0x80 ≤ b → low a ≤ b
+pub low-le : (a b : ℕ) → (a ≡ 0xE0 → 0xA0 ≤ b) → (a ≡ 0xF0 → 0x90 ≤ b) → 0x80 ≤ b → low a ≤ b
 unfolding low
 low-le a b f g h = by (eqb a 0xE0) _ _ (λ e. f (eqb-true a 0xE0 e)) (by (eqb a 0xF0) _ _ (λ e. g (eqb-true a 0xF0 e)) h)
   where
@@ -163,7 +163,7 @@ low-le a b f g h = by (eqb a 0xE0) _ _ (λ e. f (eqb-true a 0xE0 e)) (by (eqb a 
     by true x y p q = p refl
     by false x y p q = q
 
-le-high : (a b : ℕ) → (a ≡ 0xED → b ≤ 0x9F) → (a ≡ 0xF4 → b ≤ 0x8F) → b ≤ 0xBF → b ≤ high a
+pub le-high : (a b : ℕ) → (a ≡ 0xED → b ≤ 0x9F) → (a ≡ 0xF4 → b ≤ 0x8F) → b ≤ 0xBF → b ≤ high a
 unfolding high
 le-high a b f g h = by (eqb a 0xED) _ _ (λ e. f (eqb-true a 0xED e)) (by (eqb a 0xF4) _ _ (λ e. g (eqb-true a 0xF4 e)) h)
   where
@@ -175,7 +175,7 @@ step-1 : (a b c d : ℕ) → a < 0x80 → charOf a b c d ≡ Char a 1
 unfolding charOf
 step-1 a b c d h = rw (lt-ltb a 0x80 h)
 
-step-2 : (a b c d : ℕ) → 0xC2 ≤ a → a < 0xE0 → low a ≤ b → b ≤ high a → charOf a b c d ≡ Char ((a - 0xC0) * 64 + (b - 0x80)) 2
+pub step-2 : (a b c d : ℕ) → 0xC2 ≤ a → a < 0xE0 → low a ≤ b → b ≤ high a → charOf a b c d ≡ Char ((a - 0xC0) * 64 + (b - 0x80)) 2
 unfolding charOf
 step-2 a b c d h1 h2 h3 h4 =
     let g1 : 0x80 ≤ a = omega arith in

@@ -3,3 +3,4 @@ pub mod Encoding
 pub mod Boundary
 pub mod Trimming
 pub mod Ending
+pub mod Runs

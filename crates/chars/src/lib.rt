@@ -158,9 +158,9 @@ fn blocks_end(s: &[u8], at: usize) -> usize
     i
 }
 
-// Behind an ASCII byte: short runs byte by byte, and blocks only where a run is long.
+// Where the ASCII bytes from `at` on end: short runs byte by byte, and blocks only where a run is long.
 fn ascii_end(s: &[u8], at: usize) -> usize
-    requires { ⌜ at < length (now s) ⌝ }
+    requires { ⌜ at ≤ length (now s) ⌝ }
     ensures { λ r. ⌜ Plain (now (s .entry)) at r × (r ≤ length (now (s .entry))) ⌝ }
 {
     let n = s.len();
@@ -203,7 +203,7 @@ fn advance(s: &[u8], at: usize) -> usize
 {
     let a = s[at];
     if a < 0x80 {
-        return ascii_end(s, at) - at;
+        return ascii_end(s, at + 1) - at;
     }
     if a < 0xe0 {
         return two_bytes(s, at);

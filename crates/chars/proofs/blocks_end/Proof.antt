@@ -1,58 +1,58 @@
+-- `chars::blocks_end` meets its contract. The loop's invariant: all blocks passed are ASCII.
+-- Assumes nothing.
+use mathlib.Core.Path.{_≡_}
+use Prim.Native.Nat.{_+_, _≤_, _-_}
+use native.Mathlib.Omega.{arith}
+use lib.ListN.{length}
+use Rattle.chars.specs.Post.{Plain}
+use Rattle.chars.proofs.Runs.{plain-none, plain-join, plain-block}
 use Rattle.chars.proofs.blocks_end.Statement.{statement}
 use Rattle.chars.proofs.blocks_end.Tie as tie
-use Rattle.chars.proofs.blocks_end.Reads as reads
-use Rattle.chars.proofs.blocks_end.Lts as lts
-use Rattle.chars.proofs.greatest.Reads as greatest-reads
 
 abbrev Inv-loop : tie.InvT-loop
-Inv-loop s at i₀ i = ?
+Inv-loop s at i₀ i = (i ≤ length s) × Plain s at i
 
 abbrev μ-loop : tie.MeasureT-loop
-μ-loop s at i₀ i = ?
+μ-loop s at i₀ i = length s - i
 
--- src/lib.rt:151:5
 loop-holds : tie.Need-loop-holds Inv-loop μ-loop
-loop-holds c = ?
+loop-holds c = (c .before .pre, plain-none (c .before .args .s .now) (c .before .args .at))
 
--- src/lib.rt:151:17
 sub-loop : tie.Need-sub-loop Inv-loop μ-loop
-sub-loop c = ?
+sub-loop c = omega arith
 
--- src/lib.rt:152:19
 add-end : tie.Need-add-end Inv-loop μ-loop
-add-end c = ?
+add-end c = omega arith
 
--- src/lib.rt:153:28
 sub-greatest : tie.Need-sub-greatest Inv-loop μ-loop
-sub-greatest c = ?
+sub-greatest c = omega arith
 
--- src/lib.rt:153:28
 part-greatest-start : tie.Need-part-greatest-start Inv-loop μ-loop
-part-greatest-start c = ?
+part-greatest-start c = omega arith
 
--- src/lib.rt:153:28
 part-greatest-end : tie.Need-part-greatest-end Inv-loop μ-loop
-part-greatest-end c = ?
+part-greatest-end c = omega arith
 
--- src/lib.rt:153:19
 greatest-requires : tie.Need-greatest-requires Inv-loop μ-loop
-greatest-requires c κs = ?
+greatest-requires c κs = tt
 
--- src/lib.rt:154:13
 returns : tie.Need-returns Inv-loop μ-loop
-returns c = ?
+returns c = (c .before .before .before .before .loop .inv .1, c .before .before .before .before .loop .inv .0)
 
--- src/lib.rt:151:5
 loop-less : tie.Need-loop-less Inv-loop μ-loop
-loop-less c = ?
+loop-less c = omega arith
 
--- src/lib.rt:151:5
 loop-again : tie.Need-loop-again Inv-loop μ-loop
-loop-again c = ?
+loop-again c = 
+    let s = c .before .before .before .before .before .before .args .s .now in
+    let i = c .before .before .before .before .loop .i in
+    let e : i + 64 - i ≡ 64 = omega arith in
+    let l : i + 64 ≤ length s = omega (arith, c .before .before .before .loop-test .taken, c .before .before .before .before .loop .inv .0) in
+    (l, plain-join s (c .before .before .before .before .before .before .args .at) i (i + 64) (c .before .before .before .before .loop .inv .1)
+    (plain-block s i 64 (c .before .greatest .result) l (c .if1 .left) (rw e at (c .before .greatest .ensures))))
 
--- src/lib.rt:146:1
 returns-2 : tie.Need-returns-2 Inv-loop μ-loop
-returns-2 c = ?
+returns-2 c = (c .before .loop .inv .1, c .before .loop .inv .0)
 
 pub blocks-end-spec : {M : Type 1} → statement M
 blocks-end-spec =

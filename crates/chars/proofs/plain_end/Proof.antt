@@ -1,41 +1,38 @@
+-- `chars::plain_end` meets its contract. The loop's invariant: all bytes passed are ASCII.
+-- Assumes nothing.
+use Prim.Native.Nat.{_≤_, _-_}
+use native.Mathlib.Omega.{arith}
+use Rattle.chars.specs.Post.{Plain}
+use Rattle.chars.proofs.Runs.{plain-none, plain-more}
 use Rattle.chars.proofs.plain_end.Statement.{statement}
 use Rattle.chars.proofs.plain_end.Tie as tie
-use Rattle.chars.proofs.plain_end.Reads as reads
-use Rattle.chars.proofs.plain_end.Lts as lts
 
 abbrev Inv-loop : tie.InvT-loop
-Inv-loop s at limit i₀ i = ?
+Inv-loop s at limit i₀ i = (i ≤ limit) × Plain s at i
 
 abbrev μ-loop : tie.MeasureT-loop
-μ-loop s at limit i₀ i = ?
+μ-loop s at limit i₀ i = limit - i
 
--- src/lib.rt:136:5
 loop-holds : tie.Need-loop-holds Inv-loop μ-loop
-loop-holds c = ?
+loop-holds c = (omega arith, plain-none (c .args .s .now) (c .args .at))
 
--- src/lib.rt:137:19
 shared-slice-read-if1 : tie.Need-shared-slice-read-if1 Inv-loop μ-loop
-shared-slice-read-if1 c = ?
+shared-slice-read-if1 c = omega arith
 
--- src/lib.rt:138:13
 returns : tie.Need-returns Inv-loop μ-loop
-returns c = ?
+returns c = (c .before .before .before .loop .inv .1, omega arith)
 
--- src/lib.rt:140:9
 add-i : tie.Need-add-i Inv-loop μ-loop
-add-i c = ?
+add-i c = omega arith
 
--- src/lib.rt:136:5
 loop-less : tie.Need-loop-less Inv-loop μ-loop
-loop-less c = ?
+loop-less c = omega arith
 
--- src/lib.rt:136:5
 loop-again : tie.Need-loop-again Inv-loop μ-loop
-loop-again c = ?
+loop-again c = (omega arith, plain-more (c .before .before .before .before .args .s .now) (c .before .before .before .before .args .at) (c .before .before .before .loop .i) (c .before .before .before .loop .inv .1) (c .if1 .left))
 
--- src/lib.rt:131:1
 returns-2 : tie.Need-returns-2 Inv-loop μ-loop
-returns-2 c = ?
+returns-2 c = (c .before .loop .inv .1, omega arith)
 
 pub plain-end-spec : {M : Type 1} → statement M
 plain-end-spec =

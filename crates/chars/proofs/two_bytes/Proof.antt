@@ -1,44 +1,39 @@
+-- `chars::two_bytes` meets its contract: each return follows from the tests that led there.
+-- Assumes nothing.
+use mathlib.Core.Logic.{inl, inr}
+use Rattle.chars.proofs.Runs.{two-first, two-short, two-second, two-good}
 use borrow.Author.Needs.{needs}
 use Rattle.chars.proofs.two_bytes.Statement.{statement}
 use Rattle.chars.proofs.two_bytes.Tie as tie
-use Rattle.chars.proofs.two_bytes.Reads as reads
-use Rattle.chars.proofs.two_bytes.Lts as lts
 
--- src/lib.rt:183:8
 shared-slice-read-if1 : tie.Need-shared-slice-read-if1
 shared-slice-read-if1 c = search needs
 
--- src/lib.rt:184:9
 returns : tie.Need-returns
-returns c = ?
+returns c = let b = c .before .before in two-first (b .args .s .now) (b .args .at) (b .pre .0) (b .pre .1) (c .if1 .taken)
 
--- src/lib.rt:186:8
 sub-if2 : tie.Need-sub-if2
 sub-if2 c = search needs
 
--- src/lib.rt:187:9
 returns-2 : tie.Need-returns-2
-returns-2 c = ?
+returns-2 c = let b = c .before .before .before in two-short (b .args .s .now) (b .args .at) (b .pre .0) (b .pre .1) (c .if2 .taken)
 
--- src/lib.rt:189:15
 add-b : tie.Need-add-b
 add-b c = search needs
 
--- src/lib.rt:189:13
 shared-slice-read-b : tie.Need-shared-slice-read-b
 shared-slice-read-b c = search needs
 
--- src/lib.rt:191:9
 returns-3 : tie.Need-returns-3
-returns-3 c = ?
+returns-3 c = let b = c .before .before .before .before .before in two-second (b .args .s .now) (b .args .at) (b .pre .0) (b .pre .1) (inl (c .if3 .taken))
 
--- src/lib.rt:194:9
 returns-4 : tie.Need-returns-4
-returns-4 c = ?
+returns-4 c = let b = c .before .before .before .before .before .before in two-second (b .args .s .now) (b .args .at) (b .pre .0) (b .pre .1) (inr (c .if4 .taken))
 
--- src/lib.rt:179:1
 returns-5 : tie.Need-returns-5
-returns-5 c = ?
+returns-5 c = 
+    let b = c .before .before .before .before .before .before in
+    two-good (b .args .s .now) (b .args .at) (b .pre .0) (b .pre .1) (c .before .before .before .before .if1 .left) (b .pre .2) (c .before .if3 .left) (c .if4 .left)
 
 pub two-bytes-spec : {M : Type 1} → statement M
 two-bytes-spec =
