@@ -37,15 +37,32 @@ pub fn in_ranges(table: &[u32], c: u32) -> bool
     boundaries_passed(table, c) % 2 == 1
 }
 
-// For a few code points: each call lays the whole table on the stack. Who asks for many lends it once to `in_ranges`.
+// The code points that are written as numbers wherever they stand, as a table for `in_ranges`.
+// Each call lays the whole table on the stack: who asks for many code points does so once.
+pub fn escaped_anywhere() -> [u32; 1490]
+    ensures { λ r. ⌜ r ≡ escapedAnywhere ⌝ }
+{
+    tables::ESCAPED_ANYWHERE
+}
+
+// Those that are written as numbers only as first character.
+pub fn first_only() -> [u32; 762]
+    ensures { λ r. ⌜ r ≡ firstOnly ⌝ }
+{
+    tables::FIRST_ONLY
+}
+
+// For a few code points: each call lays the whole table on the stack.
 pub fn in_escaped_anywhere(c: u32) -> bool
     ensures { λ r. ⌜ r ≡ member escapedAnywhere c ⌝ }
 {
-    in_ranges(&tables::ESCAPED_ANYWHERE, c)
+    let table = escaped_anywhere();
+    in_ranges(&table, c)
 }
 
 pub fn in_first_only(c: u32) -> bool
     ensures { λ r. ⌜ r ≡ member firstOnly c ⌝ }
 {
-    in_ranges(&tables::FIRST_ONLY, c)
+    let table = first_only();
+    in_ranges(&table, c)
 }

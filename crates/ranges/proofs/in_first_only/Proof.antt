@@ -1,21 +1,21 @@
--- `ranges::in_first_only` meets its contract: the table in the code is the list of the definition, and it goes up.
+-- `ranges::in_first_only` meets its contract: the table goes up.
 -- Assumes nothing.
 use borrow.Author.Needs.{needs}
-use Rattle.ranges.specs.FirstOnly.{firstOnly}
 use Rattle.ranges.proofs.BothAscending.{first-only-ascending}
 use Rattle.ranges.proofs.in_first_only.Statement.{statement}
 use Rattle.ranges.proofs.in_first_only.Tie as tie
+
+first-only-requires : tie.Need-first-only-requires
+first-only-requires c κs = search needs
 
 slice-aggregate-in-ranges : tie.Need-slice-aggregate-in-ranges
 slice-aggregate-in-ranges c = search needs
 
 in-ranges-requires : tie.Need-in-ranges-requires
-unfolding firstOnly
-in-ranges-requires c κs = first-only-ascending
+in-ranges-requires c κs = rw (c .before .first-only .ensures) first-only-ascending
 
 returns : tie.Need-returns
-unfolding firstOnly
-returns c = c .in-ranges .ensures
+returns c = rw (c .before .before .first-only .ensures) at (c .in-ranges .ensures)
 
 pub in-first-only-spec : {M : Type 1} → statement M
-in-first-only-spec = tie.close (tie.spec slice-aggregate-in-ranges in-ranges-requires returns)
+in-first-only-spec = tie.close (tie.spec first-only-requires slice-aggregate-in-ranges in-ranges-requires returns)
