@@ -4,3 +4,4 @@ pub mod Boundary
 pub mod Trimming
 pub mod Ending
 pub mod Runs
+pub mod Examples

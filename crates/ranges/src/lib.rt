@@ -56,13 +56,13 @@ pub fn first_only() -> [u32; 762]
 pub fn in_escaped_anywhere(c: u32) -> bool
     ensures { λ r. ⌜ r ≡ member escapedAnywhere c ⌝ }
 {
-    let table = escaped_anywhere();
-    in_ranges(&table, c)
+    let anywhere = escaped_anywhere();
+    in_ranges(&anywhere, c)
 }
 
 pub fn in_first_only(c: u32) -> bool
     ensures { λ r. ⌜ r ≡ member firstOnly c ⌝ }
 {
-    let table = first_only();
-    in_ranges(&table, c)
+    let firsts = first_only();
+    in_ranges(&firsts, c)
 }

@@ -16,8 +16,8 @@ fn wide(b: u8) -> u64
     b as u64
 }
 
-// The place `by` further, or `at` where that would wrap.
-fn along(at: usize, by: usize) -> usize {
+// The place `by` further; it wraps, and then stands past no text that we read.
+pub fn along(at: usize, by: usize) -> usize {
     std::num::wrapping_add_usize(at, by)
 }
 
@@ -43,4 +43,12 @@ pub fn prefix(s: &[u8], n: usize) -> &[u8] {
         return &s[..n];
     }
     s
+}
+
+// At most n bytes from a place on.
+pub fn part(s: &[u8], from: usize, n: usize) -> &[u8] {
+    if from < s.len() {
+        return prefix(&s[from..], n);
+    }
+    prefix(s, 0)
 }

@@ -7,6 +7,7 @@ mod cuts_cases;
 mod escapes_cases;
 mod little;
 mod numbers_cases;
+mod values_cases;
 
 use libc::STDIN_FILENO;
 use libc::STDOUT_FILENO;
@@ -65,6 +66,7 @@ fn agrees(group: usize, op: usize, input: &[u8], answer: &[u8]) -> bool {
         2 => numbers_cases::agrees(op, input, answer),
         3 => cuts_cases::agrees(op, input, answer),
         4 => escapes_cases::agrees(op, input, answer),
+        5 => values_cases::agrees(op, input, answer),
         _ => false,
     }
 }
