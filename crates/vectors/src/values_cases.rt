@@ -47,7 +47,10 @@ fn same_pack(
     if !same_numbers(numbers, nodes, answer, behind_kinds) {
         return false;
     }
-    buffers::same(little::prefix(texts, count), little::part(answer, behind_numbers, count))
+    buffers::same(
+        little::prefix(texts, count),
+        little::part(answer, behind_numbers, count),
+    )
 }
 
 fn value_case(input: &[u8], answer: &[u8]) -> bool {

@@ -39,11 +39,10 @@ returns-3 c =
     let a = c .before .before .before .before .before .before .args in
     let s = now (a .s) in
     let r = c .before .before .before .plain-end2 in
-    let e : r .result ≡ a .at + 16 = omega (arith, r .ensures .1, c .before .before .if2 .left) in
-    (
+    let e : r .result ≡ a .at + 16 = omega (arith, r .ensures .1, c .before .before .if2 .left) in (
       plain-join s (a .at) (c .before .blocks-end .result) (c .plain-end3 .result)
-      (plain-join s (a .at) (a .at + 16) (c .before .blocks-end .result) (rw e at (r .ensures .0)) (c .before .blocks-end .ensures .0))
-      (c .plain-end3 .ensures .0),
+          (plain-join s (a .at) (a .at + 16) (c .before .blocks-end .result) (rw e at (r .ensures .0)) (c .before .blocks-end .ensures .0))
+          (c .plain-end3 .ensures .0),
       c .plain-end3 .ensures .1,
     )
 

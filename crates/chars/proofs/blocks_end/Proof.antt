@@ -43,13 +43,15 @@ loop-less : tie.Need-loop-less Inv-loop μ-loop
 loop-less c = omega arith
 
 loop-again : tie.Need-loop-again Inv-loop μ-loop
-loop-again c = 
+loop-again c =
     let s = c .before .before .before .before .before .before .args .s .now in
     let i = c .before .before .before .before .loop .i in
     let e : i + 64 - i ≡ 64 = omega arith in
-    let l : i + 64 ≤ length s = omega (arith, c .before .before .before .loop-test .taken, c .before .before .before .before .loop .inv .0) in
-    (l, plain-join s (c .before .before .before .before .before .before .args .at) i (i + 64) (c .before .before .before .before .loop .inv .1)
-    (plain-block s i 64 (c .before .greatest .result) l (c .if1 .left) (rw e at (c .before .greatest .ensures))))
+    let l : i + 64 ≤ length s = omega (arith, c .before .before .before .loop-test .taken, c .before .before .before .before .loop .inv .0) in (
+      l,
+      plain-join s (c .before .before .before .before .before .before .args .at) i (i + 64) (c .before .before .before .before .loop .inv .1)
+          (plain-block s i 64 (c .before .greatest .result) l (c .if1 .left) (rw e at (c .before .greatest .ensures))),
+    )
 
 returns-2 : tie.Need-returns-2 Inv-loop μ-loop
 returns-2 c = (c .before .loop .inv .1, c .before .loop .inv .0)

@@ -31,7 +31,7 @@ returns-4 : tie.Need-returns-4
 returns-4 c = let b = c .before .before .before .before .before .before in two-second (b .args .s .now) (b .args .at) (b .pre .0) (b .pre .1) (inr (c .if4 .taken))
 
 returns-5 : tie.Need-returns-5
-returns-5 c = 
+returns-5 c =
     let b = c .before .before .before .before .before .before in
     two-good (b .args .s .now) (b .args .at) (b .pre .0) (b .pre .1) (c .before .before .before .before .if1 .left) (b .pre .2) (c .before .if3 .left) (c .if4 .left)
 
