@@ -18,6 +18,18 @@ fn same_places(places: &[u64], n: usize, answer: &[u8]) -> bool {
     true
 }
 
+// An output that the places just fill is enough.
+fn just_full(places: &mut [u64], n: usize, body: &[u8]) -> bool {
+    if n > places.len() {
+        return false;
+    }
+    let cut = cuts::cut_body(&mut places[..n], body);
+    match cut {
+        Cut::Places(m) => m == n,
+        Cut::Refused(_) => false,
+    }
+}
+
 // An output one entry short is refused and left as it was.
 fn one_short(places: &mut [u64], n: usize, body: &[u8]) -> bool {
     if n == 0 {
@@ -49,6 +61,9 @@ fn body_case(input: &[u8], answer: &[u8]) -> bool {
                 return false;
             }
             if !same_places(&places, n, answer) {
+                return false;
+            }
+            if !just_full(&mut places, n, input) {
                 return false;
             }
             one_short(&mut places, n, input)
