@@ -1,0 +1,1 @@
+// What is guaranteed of the whole product, as theorems. No code.
