@@ -1,2 +1,4 @@
+pub mod StoredKeys
 mod Laying
 mod Standing
+mod EntryReading

@@ -1,25 +1,27 @@
 -- The words of the third demand: the stored keys that a pack's tables hold, the entries of an event, and the texts of a line that they are
 -- read from. Total on all lists.
 -- Assumes nothing.
+use mathlib.Core.Path.{_≡_}
 use mathlib.Core.Bool.{cond}
 use mathlib.Core.List.{List, [], _∷_, _++_}
-use Prim.Native.Nat.{ℕ, zero, suc, _+_}
+use Prim.Native.Nat.{ℕ, zero, suc, _+_, _<_, _^_}
 use lib.ListN.{length, getD, take, drop}
 use Rattle.cuts.specs.Scan.{topLevelChar, matchingParen}
 use Rattle.cuts.specs.declared.Found.{Found}
 use Rattle.cuts.specs.declared.Found.the-variants.{At, Nothing}
-use Rattle.pack.specs.Pack.{Pack}
+use Rattle.pack.specs.Pack.{Pack, emptyPack}
 use Rattle.pack.specs.Walk.{pastAt}
 use Rattle.values.specs.Text.{parts}
 use Rattle.heads.specs.Outcome.{Outcome, ok, refused}
-use Rattle.entities.specs.Entries.{Entries, noEntry, entry}
+use Rattle.entities.specs.Entries.{Entries, noEntry, entry, countEntries}
 use Rattle.entities.specs.Parse.{Key, beforeRecord, keyText}
 use Rattle.entities.specs.Walk.{keysAt}
-use Rattle.events.specs.Line.{Behind, begins, entitiesWord, parseTime, parseScope}
+use Rattle.events.specs.Event.{Event, putEvent}
+use Rattle.events.specs.Line.{Behind, begins, entitiesWord, parseTime, parseScope, parseLine}
 
 -- ---- in the tables: document 01, "The pack"
 
--- tables that begin with a pack, and hold anything behind it
+-- tables that begin with a pack; `rest` is what lies behind it
 abbrev pub behind : Pack → Pack → Pack
 behind p rest = record { kinds = p .kinds ++ rest .kinds; numbers = p .numbers ++ rest .numbers; texts = p .texts ++ rest .texts }
 
@@ -41,11 +43,29 @@ storedKey i p = getD (keysIn p) i []
 
 -- ---- in the event
 
+-- a line that is read, and whose texts a pack can place: the number of a text node has 32 bits for a start and 32 for a length
+pub record Accepted (s : List ℕ) (e : Event) : Type 0 where
+  pub read : parseLine s ≡ ok e
+  pub short : length (putEvent e emptyPack .texts) < 2 ^ 32
+
+-- tables that hold the event of a line
+abbrev pub tablesOf : Event → Pack → Pack
+tablesOf e rest = behind (putEvent e emptyPack) rest
+
+abbrev pub entryCount : Event → ℕ
+entryCount e = countEntries (e .entities)
+
 -- type text and decoded id of the entry i; where there is none, two empty texts
 unfoldable pub entryAt : ℕ → Entries → Key
 entryAt i noEntry = record { type = []; id = [] }
 entryAt zero (entry ty id fs ps es) = record { type = ty; id = id }
 entryAt (suc i) (entry ty id fs ps es) = entryAt i es
+
+abbrev pub typeText : ℕ → Event → List ℕ
+typeText i e = entryAt i (e .entities) .type
+
+abbrev pub decodedId : ℕ → Event → List ℕ
+decodedId i e = entryAt i (e .entities) .id
 
 -- ---- in the line
 
