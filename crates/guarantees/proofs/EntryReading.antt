@@ -3,7 +3,7 @@
 use mathlib.Core.Path.{_≡_, refl, sym, ap, ap₂, subst, _∙_}
 use mathlib.Core.Bool.{Bool, true, false, cond}
 use mathlib.Core.List.{List, [], _∷_, _++_}
-use Prim.Native.Nat.{ℕ, zero, suc, _+_, _<_}
+use Prim.Native.Nat.{ℕ, zero, suc, _+_, _-_, _<_}
 use native.Mathlib.Omega.{arith}
 use lib.ListN.{length, getD, take, drop}
 use Rattle.buffers.specs.Same.{among}
@@ -22,14 +22,14 @@ use Rattle.keys.proofs.Trimmed.{read-key-trimmed, key-trimmed-iff}
 use Rattle.pack.specs.Value.{null, bool, integer, decimal, string, entity, array, fields}
 use Rattle.values.specs.Text.{full, parts}
 use Rattle.values.specs.Parse.{Result, done, refused, parse}
-use Rattle.heads.specs.Outcome.{Outcome, ok, andThen}
+use Rattle.heads.specs.Outcome.{Outcome, ok}
 use Rattle.entities.specs.Entries.{Entries, noEntry, entry, countEntries, storedKeys}
 use Rattle.entities.specs.Parse.{Key, Entry, onlyRecord, allParents, onlyKey, parseEntityParents, unlessStored, entryParts, entryClosed, entryOpened, endsInColon, beforeRecord, keyText, parseEntry, onto, parseEntries, parseEntities}
 use Rattle.entities.proofs.KeyTexts.{Other, read-at, key-entity, other-parse}
 use Rattle.events.specs.Event.{Event}
-use Rattle.events.specs.Line.{Behind, begins, entitiesWord, envelopeAt, parseTime, parseScope, parseEntitiesEnvelope, parseLine}
-use Rattle.events.proofs.LineParts.{never, same-answer, taken, LineParts, line-parts}
-use Rattle.guarantees.specs.Keys.{entryAt, restOf, upTo, entitiesBody, keyTextBefore, keyTextOf}
+use Rattle.events.specs.Line.{Behind, begins, entitiesWord, envelopeAt, parseEntitiesEnvelope, parseLine}
+use Rattle.events.proofs.LineParts.{never, same-answer, taken, line-parts}
+use Rattle.guarantees.specs.Keys.{entryAt, upTo, entitiesBody, keyTextBefore, keyTextOf}
 
 -- ---- a value that is an entity
 
@@ -47,11 +47,12 @@ entity-trimmed s ty id t e = go (findEntityQuoteOpen s) refl
         let k = same-answer (sym (key-entity s p _ t f refl) ∙ ap onlyKey e) in
         read-at s p f ∙ ap (λ (x : Key). Reading.entity (x .type) (x .id)) k
 
+pub entity-read : (s ty id : List ℕ) → parse levels s ≡ done (entity ty id) → readEntity (trim s) ≡ Reading.entity ty id
+entity-read s ty id e = entity-trimmed (trim s) ty id (trim-idempotent s) (parse-trim levels s ∙ e)
+
 -- its type begins with no White_Space
 pub type-clean : (s ty id : List ℕ) → parse levels s ≡ done (entity ty id) → whiteAt ty ≡ 0
-type-clean s ty id e =
-    key-trimmed-iff pinned ty id .0
-    (read-key-trimmed pinned s ty id (entity-trimmed (trim s) ty id (trim-idempotent s) (parse-trim levels s ∙ e)))
+type-clean s ty id e = key-trimmed-iff pinned ty id .0 (read-key-trimmed pinned s ty id (entity-read s ty id e))
 
 pub same-key : {ty id ty′ id′ : List ℕ} → done (entity ty id) ≡ done (entity ty′ id′) → entityUid pinned ty id ≡ entityUid pinned ty′ id′
 same-key {ty} {id} {ty′} {id′} e =
@@ -102,6 +103,14 @@ module _ (before : List (List ℕ)) (en : Entry) where
   entry-key : (x : List ℕ) → parseEntry before x ≡ ok en → ReadAs (keyTextOf x) (en .key)
   unfolding parseEntry keyTextOf
   entry-key x e = opened-key x (topLevelChar 123 x) e
+
+pub key-text-trimmed : (x : List ℕ) → trim (keyTextOf x) ≡ keyTextOf x
+unfolding keyTextOf trimFrom trimEnd
+key-text-trimmed x = go (topLevelChar 123 x)
+  where
+    go : (f : Found) → trim (keyTextBefore x f) ≡ keyTextBefore x f
+    go (At b) = trim-idempotent (take (length (beforeRecord x b) - 1) (beforeRecord x b))
+    go Nothing = refl
 
 -- ---- all of them
 

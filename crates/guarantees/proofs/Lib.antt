@@ -2,3 +2,4 @@ pub mod StoredKeys
 mod Laying
 mod Standing
 mod EntryReading
+mod Examples

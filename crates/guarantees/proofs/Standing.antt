@@ -1,27 +1,28 @@
 -- Where an event's entries stand in the tables, and that walking over them finds their stored keys, whatever lies behind the pack.
 -- Assumes nothing.
-use mathlib.Core.Path.{_≡_, refl, sym, ap, _∙_}
-use mathlib.Core.List.{List, [], _∷_, _++_, append-assoc}
-use Prim.Native.Nat.{ℕ, _+_, _^_, _<_}
+use mathlib.Core.Path.{_≡_, refl, ap, _∙_}
+use mathlib.Core.List.{List, _∷_, _++_, append-assoc}
+use Prim.Native.Nat.{ℕ, _+_, _-_, _^_, _<_}
 use native.Mathlib.Numerals.{add-one}
 use native.Mathlib.Omega.{arith}
 use borrow.Author.Tests.{lt-ltb}
-use lib.ListN.{length, drop, getD, length-append, length-drop}
+use lib.ListN.{length, drop, getD, replicate, length-append, length-drop}
 use lib.Seq.{drop-cons, drop-at, getD-at}
 use Rattle.keys.specs.Escape.{pinned, entityUid}
 use Rattle.pack.specs.Value.{Value, array, fields}
 use Rattle.pack.specs.Pack.{Pack, emptyPack, node, put}
+use Rattle.pack.specs.Padded.{padded}
 use Rattle.pack.specs.Closed.{kindsOf, textsOf, numbersOf, stretch}
 use Rattle.pack.proofs.Appended.{pack-is}
 use Rattle.pack.proofs.Closed.{joined, numbers-long}
 use Rattle.pack.proofs.Laid.{past-value, text-laid}
 use Rattle.heads.specs.Head.{putHead}
-use Rattle.entities.specs.Entries.{Entries, noEntry, entry, countEntries, storedKeys, putEntries, putEntities}
+use Rattle.entities.specs.Entries.{Entries, noEntry, entry, countEntries, storedKeys}
 use Rattle.entities.specs.Closed.{kindsEntries, textsEntries, numbersEntries}
 use Rattle.entities.specs.Walk.{keysAt}
 use Rattle.entities.proofs.Laid.{putEntries-closed}
 use Rattle.events.specs.Event.{Event, putIf, putEvent}
-use Rattle.guarantees.specs.Keys.{behind, pastAll, entitiesNode, keysIn}
+use Rattle.guarantees.specs.Keys.{behind, tablesOf, pastAll, entitiesNode, keysIn}
 use Rattle.guarantees.proofs.Laying.{Laid, beyond, parts-laid}
 
 -- ---- the entries from a node on
@@ -100,6 +101,19 @@ event-closed : (e : Event)
 event-closed e =
     putEntries-closed (e .entities) (node 9 (countEntries (e .entities)) (beforeEntities e))
     ∙ pack-is _ _ (append-assoc (beforeEntities e .kinds) _ _) (append-assoc (beforeEntities e .numbers) _ _) refl
+
+-- zeros behind what was written, and then r
+padded-behind : (n : ℕ) (l r : List ℕ) → padded n l ++ r ≡ l ++ (replicate (n - length l) 0 ++ r)
+unfolding padded
+padded-behind n l r = append-assoc l (replicate (n - length l) 0) r
+
+pub tables-padded : (n m : ℕ) (e : Event) (past : Pack)
+    → (rest : Pack) × (record {
+      kinds = padded n (putEvent e emptyPack .kinds) ++ past .kinds;
+      numbers = padded n (putEvent e emptyPack .numbers) ++ past .numbers;
+      texts = padded m (putEvent e emptyPack .texts) ++ past .texts;
+    } ≡ tablesOf e rest)
+tables-padded n m e past = (_, pack-is _ _ (padded-behind n (putEvent e emptyPack .kinds) (past .kinds)) (padded-behind n (putEvent e emptyPack .numbers) (past .numbers)) (padded-behind m (putEvent e emptyPack .texts) (past .texts)))
 
 pub keys-stand : (e : Event) (rest : Pack) → length (putEvent e emptyPack .texts) < 2 ^ 32 → keysIn (behind (putEvent e emptyPack) rest) ≡ storedKeys (e .entities)
 keys-stand e rest l =

@@ -3,7 +3,7 @@
 -- Assumes nothing.
 use mathlib.Core.Path.{_≡_}
 use mathlib.Core.Bool.{cond}
-use mathlib.Core.List.{List, [], _∷_, _++_}
+use mathlib.Core.List.{List, [], _++_}
 use Prim.Native.Nat.{ℕ, zero, suc, _+_, _<_, _^_}
 use lib.ListN.{length, getD, take, drop}
 use Rattle.cuts.specs.Scan.{topLevelChar, matchingParen}
@@ -43,10 +43,10 @@ storedKey i p = getD (keysIn p) i []
 
 -- ---- in the event
 
--- a line that is read, and whose texts a pack can place: the number of a text node has 32 bits for a start and 32 for a length
+-- a line that is read, of less than 2^29 bytes, which is far beyond the line limit
 pub record Accepted (s : List ℕ) (e : Event) : Type 0 where
   pub read : parseLine s ≡ ok e
-  pub short : length (putEvent e emptyPack .texts) < 2 ^ 32
+  pub short : length s < 2 ^ 29
 
 -- tables that hold the event of a line
 abbrev pub tablesOf : Event → Pack → Pack
