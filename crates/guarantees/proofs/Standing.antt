@@ -25,7 +25,7 @@ use Rattle.events.specs.Event.{Event, putIf, putEvent}
 use Rattle.guarantees.specs.Keys.{behind, tablesOf, pastAll, entitiesNode, keysIn}
 use Rattle.guarantees.proofs.Laying.{Laid, beyond, parts-laid}
 
--- ---- the entries from a node on
+-- ---- the entries from a node on; only their own texts need be short, not the table
 
 record Cell (l : List ℕ) (at x : ℕ) (r : List ℕ) : Type 0 where
   inside : at < length l

@@ -50,7 +50,7 @@ entry-spelled {s} a i h =
 pub keys-stand : {s : List ℕ} {e : Event} → Accepted s e → (rest : Pack) → keysIn (tablesOf e rest) ≡ storedKeys (e .entities)
 keys-stand {s} {e} a rest = Standing.keys-stand e rest (let short = a .short in omega (arith, line-small s e (a .read) .1))
 
--- So do the tables as a call leaves them: the pack, zeros up to their used lengths, and past those what was there.
+-- The tables as a call leaves them are such tables: the pack, zeros up to their used lengths, and past those what was there.
 pub tables-padded : (n m : ℕ) (e : Event) (past : Pack)
     → (rest : Pack) × (record {
       kinds = padded n (putEvent e emptyPack .kinds) ++ past .kinds;
