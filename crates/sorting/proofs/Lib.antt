@@ -1,0 +1,5 @@
+mod OrderLaws
+pub mod Sorted
+mod MergeLaws
+mod PartLaws
+mod TextLaws
