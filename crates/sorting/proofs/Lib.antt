@@ -1,5 +1,6 @@
 mod OrderLaws
 pub mod Sorted
 mod MergeLaws
+mod LoopLaws
 mod PartLaws
 mod TextLaws
