@@ -57,10 +57,13 @@ module _ (key : ℕ → List ℕ) (spare : List ℕ) (h end : ℕ) (goal order :
         rw (e, drop-cons order right 0 (omega (arith, s .room)), add-one right)
 
     module _ (r : Bool) (test : r ≡ (ltb right end && precedes (key (getD order right 0)) (key left))) where
+      pub right-more : r ≡ true → right < end
+      right-more t = ltb-true right end (and-left (ltb right end) (precedes (key (getD order right 0)) (key left)) (sym test ∙ t))
+
       pub merging-right : r ≡ true → Merging key spare h end goal (set order at (getD order right 0)) (at + 1) i (right + 1)
       merging-right t =
           let v : ℕ = getD order right 0 in
-          let l : right < end = ltb-true right end (and-left (ltb right end) (precedes (key v) (key left)) (sym test ∙ t)) in
+          let l : right < end = right-more t in
           let q = and-right (ltb right end) (precedes (key v) (key left)) (sym test ∙ t) in
           let rest : List ℕ = take (end - (right + 1)) (drop (right + 1) order) in
           record {
