@@ -7,6 +7,7 @@ use Prim.Native.Nat.{ℕ, _+_, _-_, _≤_, _<_}
 use native.Mathlib.Omega.{arith}
 use lib.ListN.{length, take, drop, getD, length-append, length-drop, length-take, take-append-drop, List·getD-append}
 use lib.Seq.{take-at, drop-at, drop-drop, take-add, length-take-le, getD-append-add}
+use Rattle.buffers.proofs.Appending.{length-part}
 use Rattle.sorting.specs.Order.{precedes, insert, sortBy}
 use Rattle.sorting.specs.Places.{sortedPart}
 use Rattle.sorting.specs.Merge.{mergeBy, mergedPart}
@@ -16,6 +17,13 @@ use Rattle.sorting.proofs.MergeLaws.{merge-sorted, merge-in-order}
 -- a part, and what stands behind it
 pub part-rest : (a n : ℕ) (l : List ℕ) → take n (drop a l) ++ drop (a + n) l ≡ drop a l
 part-rest a n l = rw (← drop-drop n a l) (take-append-drop n (drop a l))
+
+-- a run that was saved
+pub saved : (l spare : List ℕ) (from h : ℕ) → from + h ≤ length l
+    → take (length (take (from + h - from) (drop from l))) spare ≡ take (from + h - from) (drop from l) → take h spare ≡ take h (drop from l)
+saved l spare from h f s =
+    let e : from + h - from ≡ h = omega arith in
+    rw (e, length-part from h l f) at s
 
 module _ (key : ℕ → List ℕ) where
   part-sorted : (p x z : List ℕ) (from n : ℕ) → length p ≡ from → length x ≡ n → sortedPart key from n (p ++ (x ++ z)) ≡ p ++ (sortBy key x ++ z)
