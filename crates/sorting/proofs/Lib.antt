@@ -4,3 +4,4 @@ mod MergeLaws
 mod LoopLaws
 mod PartLaws
 mod TextLaws
+mod Examples

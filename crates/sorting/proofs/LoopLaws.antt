@@ -6,7 +6,7 @@ use mathlib.Core.List.{List, [], _∷_, _++_}
 use Prim.Native.Nat.{ℕ, suc, _+_, _-_, _≤_, _<_}
 use native.Mathlib.Numerals.{add-one}
 use native.Mathlib.Omega.{arith}
-use borrow.Author.Tests.{ltb-true, ltb-false, lt-ltb}
+use borrow.Author.Tests.{ltb-true, ltb-false}
 use lib.Dec.{ltb}
 use lib.ListN.{length, take, drop, getD, set, length-set, length-take, drop-of-length-le, take-append-drop}
 use lib.Seq.{drop-cons, drop-set-lt, append-snoc, getD-take, take-suc, length-take-le}
@@ -72,7 +72,7 @@ module _ (key : ℕ → List ℕ) (spare : List ℕ) (h end : ℕ) (goal order :
             gap = omega (arith, s .gap);
             room = simp length-set (s .room);
             stands = rw (drop-set-lt (right + 1) order at v (omega (arith, s .gap)))
-            (stored v (mergeBy key (drop i (take h spare)) rest) more (rw (rights l, lefts) (merge-right key left v (drop (i + 1) (take h spare)) rest q)));
+                (stored v (mergeBy key (drop i (take h spare)) rest) more (rw (rights l, lefts) (merge-right key left v (drop (i + 1) (take h spare)) rest q)));
           }
 
       left-first : r ≡ false → mergeBy key (drop i (take h spare)) (take (end - right) (drop right order))
@@ -97,7 +97,7 @@ module _ (key : ℕ → List ℕ) (spare : List ℕ) (h end : ℕ) (goal order :
         gap = omega (arith, s .gap);
         room = simp length-set (s .room);
         stands = rw (drop-set-lt right order at left (omega (arith, s .gap)))
-        (stored left (mergeBy key (drop (i + 1) (take h spare)) (take (end - right) (drop right order))) more (left-first t));
+            (stored left (mergeBy key (drop (i + 1) (take h spare)) (take (end - right) (drop right order))) more (left-first t));
       }
 
   pub merging-end : h ≤ i → order ≡ goal

@@ -1,4 +1,4 @@
--- Merging two sorted runs sorts them as one list; and the loop that merges, turn by turn.
+-- Merging two sorted runs sorts them as one list.
 -- Assumes nothing.
 use mathlib.Core.Path.{_≡_, refl, sym, ap, _∙_}
 use mathlib.Core.Bool.{Bool, true, false}

@@ -1,6 +1,6 @@
 -- `precedes` is a strict total order on byte strings, and is computed byte by byte.
 -- Assumes nothing.
-use mathlib.Core.Path.{_≡_, refl, sym, ap, _∙_}
+use mathlib.Core.Path.{_≡_, refl, sym, _∙_}
 use mathlib.Core.Logic.{_⊎_, inl, inr}
 use mathlib.Core.Bool.{Bool, true, false, false≢true, or-false}
 use mathlib.Core.List.{List, [], _∷_}

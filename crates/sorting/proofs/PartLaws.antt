@@ -1,7 +1,7 @@
 -- A table in four parts, of which the two in the middle are sorted, one after the other, and then merged.
 -- Assumes nothing.
 use mathlib.Core.Path.{_≡_, refl, sym, ap, _∙_}
-use mathlib.Core.Bool.{false}
+use mathlib.Core.Bool.{Bool, false}
 use mathlib.Core.List.{List, [], _∷_, _++_, append-assoc}
 use Prim.Native.Nat.{ℕ, _+_, _-_, _≤_, _<_}
 use native.Mathlib.Omega.{arith}
@@ -88,9 +88,9 @@ module _ (key : ℕ → List ℕ) where
     unfolding sortedPart
     whole = let e : from + (h + m) ≡ from + h + m = omega arith in rw (e, take-add h m (drop from o), drop-drop h from o)
 
-    module _ (n : ℕ) (split : n ≡ h + m) (o₂ : List ℕ) (e : o₂ ≡ sortedPart key (from + h) m (sortedPart key from h o)) where
+    module _ (n : ℕ) (split : n ≡ h + m) (o₁ o₂ : List ℕ) (e₁ : o₁ ≡ sortedPart key from h o) (e₂ : o₂ ≡ sortedPart key (from + h) m o₁) where
       halves-in : o₂ ≡ p ++ (sortBy key x ++ (sortBy key y ++ z))
-      halves-in = e ∙ halves
+      halves-in = e₂ ∙ ap (sortedPart key (from + h) m) e₁ ∙ halves
 
       -- the first of them is the run that is merged
       pub merged-halves : (o₃ run : List ℕ) → run ≡ take h (drop from o₂) → o₃ ≡ mergedPart key run from h m o₂ → o₃ ≡ sortedPart key from n o
@@ -100,12 +100,12 @@ module _ (key : ℕ → List ℕ) where
           ∙ ap (λ (l : List ℕ). p ++ (l ++ z)) (merge-sorted key x y) ∙ sym whole)
 
       -- halves that stand in order already
-      pub halves-in-order : 0 < h → 0 < m → precedes (key (getD o₂ (from + h) 0)) (key (getD o₂ (from + h - 1) 0)) ≡ false → o₂ ≡ sortedPart key from n o
-      halves-in-order hh hm t =
+      pub halves-in-order : 0 < h → 0 < m → (r : Bool) → r ≡ precedes (key (getD o₂ (from + h) 0)) (key (getD o₂ (from + h - 1) 0)) → r ≡ false → o₂ ≡ sortedPart key from n o
+      halves-in-order hh hm r test t =
           let first : getD o₂ (from + h) 0 ≡ getD (sortBy key y) 0 0 = first-right in
           let last : getD o₂ (from + h - 1) 0 ≡ getD (sortBy key x) (h - 1) 0 = last-left in
           let apart : mergeBy key (sortBy key x) (sortBy key y) ≡ sortBy key x ++ sortBy key y =
-              merge-in-order key (sortBy key x) (sortBy key y) 0 (h - 1) (m - 1) (omega (arith, sort-length key x, x-length)) (omega (arith, sort-length key y, y-length)) (sort-ascends key x) (rw (← first, ← last) t) in
+          merge-in-order key (sortBy key x) (sortBy key y) 0 (h - 1) (m - 1) (omega (arith, sort-length key x, x-length)) (omega (arith, sort-length key y, y-length)) (sort-ascends key x) (rw (← first, ← last) (sym test ∙ t)) in
           halves-in ∙ rw split (sym (whole ∙ ap (λ (l : List ℕ). p ++ (l ++ z)) (sym (merge-sorted key x y) ∙ apart) ∙ ap (λ (l : List ℕ). p ++ l) (append-assoc (sortBy key x) (sortBy key y) z)))
         where
           first-right : getD o₂ (from + h) 0 ≡ getD (sortBy key y) 0 0

@@ -1,15 +1,16 @@
--- `sortBy` sorts and does nothing else: its result is a permutation that ascends, where the keys are distinct the only one,
--- and it keeps step with a map that keeps the keys.
+-- `sortBy` sorts and does nothing else: its result is a permutation that ascends, where the keys are distinct the only one;
+-- elements of one key stay in their order; and it keeps step with a map that keeps the keys.
 -- Assumes nothing.
 use mathlib.Core.Path.{_≡_, refl, sym, ap, subst, _∙_}
-use mathlib.Core.Bool.{Bool, true, false, cond}
+use mathlib.Core.Bool.{Bool, true, false, cond, false≢true}
 use mathlib.Core.List.{List, [], _∷_, map, List·Permᴰ, List·Permᴰ·nil, List·Permᴰ·cons, List·Permᴰ·swap, List·Permᴰ·trans, Permᴰ·refl}
-use Prim.Native.Nat.{ℕ, suc, _<_}
-use native.Mathlib.Omega.{arith}
+use Prim.Native.Nat.{ℕ, suc}
 use lib.ListN.{length}
+use Rattle.buffers.specs.Same.{same}
+use Rattle.buffers.proofs.Equal.{same-true}
 use Rattle.buffers.proofs.Choice.{by-cond}
-use Rattle.sorting.specs.Order.{precedes, Each, insert, sortBy, Ascends, Distinct}
-use Rattle.sorting.proofs.OrderLaws.{precedes-transitive, precedes-asymmetric, precedes-total, follows}
+use Rattle.sorting.specs.Order.{precedes, Each, insert, sortBy, Ascends, Distinct, ofKey}
+use Rattle.sorting.proofs.OrderLaws.{precedes-irreflexive, precedes-transitive, precedes-asymmetric, precedes-total, follows}
 
 pub each-map : {A : Type 0} (P Q : A → Type 0) → ((x : A) → P x → Q x) → (xs : List A) → Each P xs → Each Q xs
 unfolding Each
@@ -123,9 +124,10 @@ module _ {A : Type 0} (key : A → List ℕ) where
   distinct-permuted List·Permᴰ·nil h = tt
   distinct-permuted (List·Permᴰ·cons {l₁ = l} e d) h =
       (each-permuted _ d (subst (λ (z : A). Each (λ (y : A). key z ≡ key y → ⊥) l) e (h .0)), distinct-permuted d (h .1))
-  distinct-permuted (List·Permᴰ·swap {l = l} e f) h =
-      ((λ q. h .0 .0 (ap key e ∙ sym q ∙ sym (ap key f)), subst (λ (z : A). Each (λ (y : A). key z ≡ key y → ⊥) l) f (h .1 .0)),
-      (subst (λ (z : A). Each (λ (y : A). key z ≡ key y → ⊥) l) e (h .0 .1), h .1 .1))
+  distinct-permuted (List·Permᴰ·swap {l = l} e f) h = (
+    (λ q. h .0 .0 (ap key e ∙ sym q ∙ sym (ap key f)), subst (λ (z : A). Each (λ (y : A). key z ≡ key y → ⊥) l) f (h .1 .0)),
+    (subst (λ (z : A). Each (λ (y : A). key z ≡ key y → ⊥) l) e (h .0 .1), h .1 .1),
+  )
   distinct-permuted (List·Permᴰ·trans d e) h = distinct-permuted e (distinct-permuted d h)
 
   sort-permuted : {xs ys : List A} → List·Permᴰ xs ys → Distinct key xs → sortBy key xs ≡ sortBy key ys
@@ -138,6 +140,31 @@ module _ {A : Type 0} (key : A → List ℕ) where
   -- a permutation that ascends is the result, where the keys are distinct
   pub sort-unique : (xs ys : List A) → Distinct key xs → List·Permᴰ xs ys → Ascends key ys → ys ≡ sortBy key xs
   sort-unique xs ys d p h = sym (sort-permuted p d ∙ sort-fixed ys h)
+
+  -- ---- elements of one key stay in their order
+
+  insert-stable : (k : List ℕ) (a : A) (xs : List A) → ofKey key k (insert key a xs) ≡ ofKey key k (a ∷ xs)
+  unfolding insert ofKey
+  insert-stable k a [] = refl
+  insert-stable k a (b ∷ xs) =
+      let ih = insert-stable k a xs in
+      by-cond (λ (l : List A). ofKey key k l ≡ ofKey key k (a ∷ b ∷ xs)) (precedes (key b) (key a)) (b ∷ insert key a xs) (a ∷ b ∷ xs)
+      (λ e. ap (λ (l : List A). cond (same (key b) k) (b ∷ l) l) ih ∙ go e (same (key a) k) refl (same (key b) k) refl)
+      (λ _. refl)
+    where
+      go : precedes (key b) (key a) ≡ true → (s : Bool) → same (key a) k ≡ s → (t : Bool) → same (key b) k ≡ t
+          → cond t (b ∷ cond s (a ∷ ofKey key k xs) (ofKey key k xs)) (cond s (a ∷ ofKey key k xs) (ofKey key k xs))
+          ≡ cond s (a ∷ cond t (b ∷ ofKey key k xs) (ofKey key k xs)) (cond t (b ∷ ofKey key k xs) (ofKey key k xs))
+      go e true p true q =
+          let r : key b ≡ key a = same-true (key b) k q ∙ sym (same-true (key a) k p) in
+          absurd (false≢true (sym (precedes-irreflexive (key a)) ∙ (rw r at e)))
+      go e true p false q = refl
+      go e false p t q = refl
+
+  pub sort-stable : (k : List ℕ) (xs : List A) → ofKey key k (sortBy key xs) ≡ ofKey key k xs
+  unfolding sortBy ofKey
+  sort-stable k [] = refl
+  sort-stable k (a ∷ xs) = insert-stable k a (sortBy key xs) ∙ ap (λ (l : List A). cond (same (key a) k) (a ∷ l) l) (sort-stable k xs)
 
 -- ---- sorting keeps step with a map that keeps the keys
 

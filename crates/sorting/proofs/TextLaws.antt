@@ -4,7 +4,7 @@ use mathlib.Core.Path.{_≡_, sym}
 use mathlib.Core.List.{List, []}
 use Prim.Native.Nat.{ℕ, _-_, _/_, _%_, _^_, _≤_}
 use native.Mathlib.Omega.{arith}
-use lib.ListN.{length, take, drop, length-drop, drop-of-length-le}
+use lib.ListN.{length, drop, length-drop, drop-of-length-le}
 use lib.Seq.{take-all, take-nil}
 use Rattle.pack.specs.Walk.{textAt}
 

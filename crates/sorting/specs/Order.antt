@@ -5,6 +5,7 @@ use mathlib.Core.Bool.{Bool, true, false, cond, _&&_, _||_}
 use mathlib.Core.List.{List, [], _∷_}
 use Prim.Native.Nat.{ℕ}
 use lib.Dec.{ltb, eqb}
+use Rattle.buffers.specs.Same.{same}
 
 -- strictly before: bytes compare as numbers, and a prefix comes first
 unfoldable pub precedes : List ℕ → List ℕ → Bool
@@ -37,3 +38,8 @@ module _ {A : Type 0} (key : A → List ℕ) where
   unfoldable pub Distinct : List A → Type 0
   Distinct [] = Unit
   Distinct (x ∷ xs) = Each (λ (y : A). key x ≡ key y → ⊥) xs × Distinct xs
+
+  -- the elements of one key, as they stand
+  unfoldable pub ofKey : List ℕ → List A → List A
+  ofKey k [] = []
+  ofKey k (x ∷ xs) = cond (same (key x) k) (x ∷ ofKey k xs) (ofKey k xs)

@@ -1,10 +1,10 @@
 -- `sorting::sort_places` meets its contract. The measure is n, of which each half is less. Assumes nothing.
-use mathlib.Core.Path.{_≡_, sym, ap, _∙_}
+use mathlib.Core.Path.{_≡_, _∙_}
 use Prim.Native.Nat.{ℕ, _+_, _-_, _/_, _<_}
 use native.Mathlib.Omega.{arith}
 use borrow.Author.Needs.{needs}
 use lib.ListN.{take, drop, length-take}
-use Rattle.sorting.specs.Places.{placeKey, sortedPart}
+use Rattle.sorting.specs.Places.{placeKey}
 use Rattle.sorting.proofs.PartLaws.{sorted-short, saved, merged-halves, halves-in-order}
 use borrow.Fn.Kinds.{In}
 use borrow.Fn.PlainCycle.{Measures, is, falls, and}
@@ -148,8 +148,7 @@ sort-places-returns-2 t c =
     let h : ℕ = a .n / 2 in
     let m : ℕ = a .n - a .n / 2 in
     let key = placeKey (a .numbers .now) (a .texts .now) in
-    let sorted = r .ensures ∙ ap (sortedPart key (a .from + h) m) (q .ensures) in
-    merged-halves key (a .order .now) (a .from) h m (omega arith) (a .n) (omega arith) (r .last .0) sorted (c .before .before .merge .last .0) (take h (c .before .before .before .before .before .before .before .save .last .0))
+    merged-halves key (a .order .now) (a .from) h m (omega arith) (a .n) (omega arith) (q .last .0) (r .last .0) (q .ensures) (r .ensures) (c .before .before .merge .last .0) (take h (c .before .before .before .before .before .before .before .save .last .0))
     (saved (r .last .0) (c .before .before .before .before .before .before .before .save .last .0) (a .from) h (omega (arith, q .kept .0, r .kept .0)) (c .before .before .before .before .before .before .before .save .ensures)) (c .before .before .merge .ensures)
 
 sort-places-same-length-3 : (t : ℕ) → sort-places-lts.Need-same-length-3 (sort-places-calls t) (sort-places-at t) sort-places.Post
@@ -174,8 +173,7 @@ sort-places-returns-3 t c =
     let h : ℕ = a .n / 2 in
     let m : ℕ = a .n - a .n / 2 in
     let key = placeKey (a .numbers .now) (a .texts .now) in
-    let sorted = r .ensures ∙ ap (sortedPart key (a .from + h) m) (q .ensures) in
-    halves-in-order key (a .order .now) (a .from) h m (omega arith) (a .n) (omega arith) (r .last .0) sorted (omega arith) (omega arith) (sym (c .before .place-precedes .ensures) ∙ c .if2 .left)
+    halves-in-order key (a .order .now) (a .from) h m (omega arith) (a .n) (omega arith) (q .last .0) (r .last .0) (q .ensures) (r .ensures) (omega arith) (omega arith) (c .before .place-precedes .result) (c .before .place-precedes .ensures) (c .if2 .left)
 
 pub +sort-places-spec : {M : Type 1} → statement M
 +sort-places-spec = close μ-sort-places λ t. sort-places-lts.spec (sort-places-calls t)

@@ -1,7 +1,7 @@
 -- `sorting::precedes` meets its contract. The loop's invariant: the rests stand as the texts do.
 -- Assumes nothing.
 use mathlib.Core.Path.{_≡_, refl, sym, _∙_}
-use Prim.Native.Nat.{_+_, _-_, _≤_}
+use Prim.Native.Nat.{_-_, _≤_}
 use native.Mathlib.Omega.{arith}
 use lib.ListN.{length, drop}
 use Rattle.sorting.specs.Order.{precedes}
