@@ -2,6 +2,8 @@
 //! Each row is first checked: both sides must give the same answer. Then they run in turns, and the least time of each counts,
 //! since the machine is shared. Prints a Markdown table; a ratio above 1 means that ours is faster.
 
+use oracle::pack::Pack;
+use oracle::reader;
 use oracle::scans;
 use oracle::value::entity_uid_string;
 use std::hint::black_box;
@@ -30,6 +32,18 @@ mod ours {
                 t: *const u8,
                 n: usize,
                 at: usize,
+            ) -> usize;
+            pub fn bench_parse_value(
+                kinds: *mut u8,
+                k: usize,
+                numbers: *mut u64,
+                m: usize,
+                texts: *mut u8,
+                l: usize,
+                links: *mut u16,
+                j: usize,
+                s: *const u8,
+                n: usize,
             ) -> usize;
         }
     }
@@ -73,6 +87,44 @@ mod ours {
     /// `t` is a piece that stands at the place `at` of the linked text, as `next_cut` requires.
     pub fn next_cut(links: &[u16; 4097], t: &[u8], at: usize) -> usize {
         unsafe { c::bench_next_cut(links.as_ptr(), links.len(), t.as_ptr(), t.len(), at) }
+    }
+
+    /// How many nodes the value has, 0 where it is refused. The tables have room, as `parse_value` requires.
+    pub fn parse_value(tables: &mut super::Tables, s: &[u8]) -> usize {
+        assert!(s.len() < tables.links.len());
+        unsafe {
+            c::bench_parse_value(
+                tables.kinds.as_mut_ptr(),
+                tables.kinds.len(),
+                tables.numbers.as_mut_ptr(),
+                tables.numbers.len(),
+                tables.texts.as_mut_ptr(),
+                tables.texts.len(),
+                tables.links.as_mut_ptr(),
+                tables.links.len(),
+                s.as_ptr(),
+                s.len(),
+            )
+        }
+    }
+}
+
+/// Tables for a value of at most 4,096 bytes, as a caller lends them.
+struct Tables {
+    kinds: Vec<u8>,
+    numbers: Vec<u64>,
+    texts: Vec<u8>,
+    links: Vec<u16>,
+}
+
+impl Tables {
+    fn new() -> Tables {
+        Tables {
+            kinds: vec![0; 8192],
+            numbers: vec![0; 8192],
+            texts: vec![0; 32768],
+            links: vec![0; 4097],
+        }
     }
 }
 
@@ -464,6 +516,68 @@ fn level_rows() {
     );
 }
 
+fn value_rows() {
+    let nest = |open: &str, inside: &str, close: &str| {
+        format!("{}{inside}{}", open.repeat(128), close.repeat(128))
+    };
+    let list = |item: &str, n: usize| format!("[{}]", vec![item; n].join(", "));
+    let record = |n: usize| {
+        let fields: Vec<String> = (0..n)
+            .map(|i| {
+                format!(
+                    "field_{i}: {}",
+                    ["17", "\"some text\"", "Cell::\"K7\"", "12.50"][i % 4]
+                )
+            })
+            .collect();
+        format!("{{{}}}", fields.join(", "))
+    };
+    let kinds = [
+        ("an integer", "1718000000".to_string()),
+        ("a decimal", "12.50".to_string()),
+        (
+            "a quoted string",
+            "\"all clear, nothing found\"".to_string(),
+        ),
+        (
+            "a string with escapes",
+            r#""dredge \"B\", deck\t7\n""#.to_string(),
+        ),
+        ("an entity", r#"Crew::Member::"anna-petrova""#.to_string()),
+        ("a bare word", "released".to_string()),
+        ("a flat list of 8 integers", list("42", 8)),
+        ("a flat list of 200 integers", list("42", 200)),
+        ("a flat list of 100 strings", list("\"night watch\"", 100)),
+        ("a record of 4 fields", record(4)),
+        ("a record of 12 fields", record(12)),
+        ("a record of 48 fields", record(48)),
+        ("a record of 100 fields", record(100)),
+        ("arrays nested 128 deep", nest("[", "1", "]")),
+        ("records nested 128 deep", nest("{a: ", "1", "}")),
+        (
+            "arrays nested 128 deep, 3 items beside",
+            nest("[1, \"a,b\", ", "1", ", 2]"),
+        ),
+    ];
+    let mut tables = Tables::new();
+    for (kind, text) in &kinds {
+        let pack = Pack::of_value(text, &reader::value(text).expect("a value"));
+        let (nodes, bytes) = (pack.kinds.len(), pack.texts.len());
+        assert_eq!(ours::parse_value(&mut tables, text.as_bytes()), nodes);
+        assert_eq!(pack.kinds, tables.kinds[..nodes]);
+        assert_eq!(pack.numbers, tables.numbers[..nodes]);
+        assert_eq!(pack.texts, tables.texts[..bytes]);
+        row(
+            "parse_value",
+            &format!("{kind}, {} bytes", text.len()),
+            &mut || u64::from(black_box(scans::parse_value(black_box(text))).is_ok()),
+            &mut || {
+                u64::from(ours::parse_value(black_box(&mut tables), black_box(text.as_bytes())) > 0)
+            },
+        );
+    }
+}
+
 fn main() {
     println!("| what | input | Rust ns | ours ns | ratio |");
     println!("|---|---|---:|---:|---:|");
@@ -472,4 +586,5 @@ fn main() {
     spell_rows();
     cut_rows();
     level_rows();
+    value_rows();
 }

@@ -1,10 +1,17 @@
 // Inner functions of the product, exported for `tools/bench` alone: no part of the interface. Each has the contract of what it calls;
-// the benchmark sees to what two of them require.
+// the benchmark sees to what some of them require.
 ghost use mathlib.Core.Path.{_≡_};
-ghost use Prim.Native.Nat.{_<_};
-ghost use lib.ListN.{length};
+ghost use Prim.Native.Nat.{_+_, _<_};
+ghost use lib.ListN.{length, take};
+ghost use Rattle.format.specs.Limits.{levels, emptyFront};
 ghost use Rattle.cuts.specs.Scan.{comma};
 ghost use Rattle.cuts.specs.Linked.{Here, Ready};
+ghost use Rattle.pack.specs.Pack.{emptyPack};
+ghost use Rattle.pack.specs.Post.{Room};
+ghost use Rattle.values.specs.Read.{readValue};
+ghost use Rattle.bench_hooks.specs.Kinds.{kindsRead};
+use format::Front;
+use values::Read;
 
 #[no_mangle]
 pub extern "C" fn bench_split_top_level(s: &[u8]) -> usize
@@ -27,4 +34,25 @@ pub extern "C" fn bench_next_cut(links: &[u16], t: &[u8], at: usize) -> usize
     ensures { λ r. ⌜ r ≡ comma (now (t .entry)) ⌝ }
 {
     cuts::next_cut(links, t, at)
+}
+
+// Reads a value into empty tables: how many nodes it has, and 0 where it is refused.
+#[no_mangle]
+pub extern "C" fn bench_parse_value(
+    kinds: &mut [u8],
+    numbers: &mut [u64],
+    texts: &mut [u8],
+    links: &mut [u16],
+    s: &[u8],
+) -> usize
+    requires { ⌜ Room emptyFront (length (now s) + 1) (length (now s)) (now kinds) (now numbers) (now texts) ⌝ }
+    requires { ⌜ (length (now s) < length (now links)) × (length (now s) < 65536) ⌝ }
+    ensures { λ r. ⌜ take r (now (kinds .exit)) ≡ kindsRead (readValue levels (now (s .entry)) emptyPack) ⌝ }
+{
+    let front = Front { nodes: 0, texts: 0 };
+    let read = values::parse_value(kinds, numbers, texts, links, front, s);
+    match read {
+        Read::Done(end) => end.nodes,
+        Read::Refused(_) => 0,
+    }
 }
