@@ -1,4 +1,8 @@
+pub mod Agreement
 pub mod StoredKeys
+mod LineTexts
+mod Walked
+mod Judged
 mod Laying
 mod Standing
 mod EntryReading
