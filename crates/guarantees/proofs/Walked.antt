@@ -82,11 +82,13 @@ module _ (xs : List (List ℕ)) where
 
   pub behind-iff : (w : Walked ℕ) (n : ℕ) → Ended 1 0 xs w → (w ≡ behind n) ↔ (EachReadOrBlank xs × (n ≡ eventsIn xs))
   behind-iff (behind m) n o = (
-      (λ e. let z : n ≡ m = cc in (from-one (o .each), omega (arith, o .count))),
-      (λ p. ap behind (let c = p .1 in omega (arith, o .count))))
+    (λ e. let z : n ≡ m = cc in (from-one (o .each), omega (arith, o .count))),
+    (λ p. ap behind (let c = p .1 in omega (arith, o .count))),
+  )
   behind-iff (stopped x line) n o = (
-      (λ e. let z : _≡_ {A = ℕ} 0 1 = cc in absurd (omega arith)),
-      (λ p. absurd (never-refused _ x (o .here) (from-zero (p .0) (o .place) (o .inside)))))
+    (λ e. let z : _≡_ {A = ℕ} 0 1 = cc in absurd (omega arith)),
+    (λ p. absurd (never-refused _ x (o .here) (from-zero (p .0) (o .place) (o .inside)))),
+  )
 
   -- lines before the first refused one are not refused
   not-before : {x line : ℕ} → FirstRefused xs line x → (i : ℕ) → suc i < line → ReadOrBlank (getD xs i [])
@@ -117,8 +119,10 @@ module _ (xs : List (List ℕ)) where
 
   pub stopped-iff : (w : Walked ℕ) (x line : ℕ) → Ended 1 0 xs w → (w ≡ stopped x line) ↔ FirstRefused xs line x
   stopped-iff (behind m) x line o = (
-      (λ e. let z : _≡_ {A = ℕ} 0 1 = cc in absurd (omega arith)),
-      (λ f. absurd (never-refused _ x (f .here) (from-one (o .each) line (f .numbered)))))
+    (λ e. let z : _≡_ {A = ℕ} 0 1 = cc in absurd (omega arith)),
+    (λ f. absurd (never-refused _ x (f .here) (from-one (o .each) line (f .numbered)))),
+  )
   stopped-iff (stopped y at) x line o = (
-      (λ e. let p : y ≡ x = cc in let q : at ≡ line = cc in rw (← p, ← q) (halted-first o)),
-      (λ f. rw (same-line o f, same-refusal o f)))
+    (λ e. let p : y ≡ x = cc in let q : at ≡ line = cc in rw (← p, ← q) (halted-first o)),
+    (λ f. rw (same-line o f, same-refusal o f)),
+  )

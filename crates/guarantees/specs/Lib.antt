@@ -1,2 +1,3 @@
 pub mod Keys
 pub mod Lines
+pub mod Calls
