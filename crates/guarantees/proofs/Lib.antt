@@ -1,5 +1,6 @@
 pub mod Agreement
 pub mod PackKeys
+pub mod ProofSet
 pub mod StoredKeys
 mod LineTexts
 mod Walked
@@ -8,4 +9,5 @@ mod Left
 mod Laying
 mod Standing
 mod EntryReading
+mod Facts
 mod Examples
