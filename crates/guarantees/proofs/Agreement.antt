@@ -1,7 +1,7 @@
 -- Judging a log and reading its lines agree, line by line. Each theorem is a few words that cite the file with the work.
 -- Assumes nothing.
 use mathlib.Core.Path.{_≡_, sym}
-use mathlib.Core.Bool.{true, false}
+use mathlib.Core.Bool.{false}
 use mathlib.Core.List.{List}
 use mathlib.Core.Logic.{_↔_}
 use Prim.Native.Nat.{ℕ, _≤_, _<_}

@@ -1,10 +1,8 @@
 -- The facts of document 01's proof set that no crate below states, computed.
 -- Assumes nothing.
-use mathlib.Core.Path.{_≡_, refl}
-use mathlib.Core.List.{List, [], _∷_}
-use Prim.Native.Nat.{ℕ}
+use mathlib.Core.Path.{refl}
 use Rattle.buffers.specs.Same.{same, among}
-use Rattle.chars.specs.Utf8.{charOf, utf8From, encode, scalar}
+use Rattle.chars.specs.Utf8.{charOf, utf8From, encode}
 use Rattle.chars.specs.White.{wideWhite, white, whiteAt, trimFrom, trimEnd}
 use Rattle.cuts.specs.Scan.{opens, closes, step, hits, firstFrom, first, found, braceOnly, matchingBrace}
 use Rattle.cuts.specs.Split.{onto, splitFrom, splitTopLevel}
@@ -23,7 +21,7 @@ use Rattle.pack.specs.Value.{count, countFields}
 use Rattle.pack.specs.Pack.{put}
 use Rattle.pack.specs.Walk.{children, skip, pastAt, textAt}
 use Rattle.values.specs.Text.{full, parts, wrapped}
-use Rattle.values.specs.Parse.{scalarOf, wordOr, recordOf, unlessSeen, fieldValue, fieldOf, fieldThen, parseFields, parseTrimmed, parse}
+use Rattle.values.specs.Parse.{scalarOf, wordOr, recordOf, parseFields, parseTrimmed, parse}
 use Rattle.heads.specs.Head.{quoteOpenFrom, doubleColon, namesFrom, kindIn, parseEventHead, putTexts, countTexts}
 use Rattle.entities.specs.Entries.{countEntries, putEntries}
 use Rattle.entities.specs.Parse.{parseEntityParents, parseEntry, parseEntries, parseEntities}
@@ -31,7 +29,7 @@ use Rattle.entities.specs.Walk.{keysAt}
 use Rattle.events.specs.Line.{parseArgs, byteFrom, lastFrom, whiteFrom, parseTime, begins, parseScope, parseEntitiesEnvelope, parseContext, parseGroup, lookup, parseLine}
 use Rattle.events.specs.Answer.{lineAnswer, readLine}
 use Rattle.guarantees.specs.Keys.{pastAll, entitiesNode, keysIn}
-use Rattle.guarantees.specs.ProofSet.{GivesKey, Fact8, Fact9, Fact10, Fact11, Fact12}
+use Rattle.guarantees.specs.ProofSet.{Fact8, Fact9, Fact10, Fact11, Fact12}
 
 pub out-of-order : Fact8
 unfolding readLine lineAnswer utf8From parseLine parseTime whiteFrom whiteAt white wideWhite charOf trimFrom trimEnd i64Of many value parseScope parseEntitiesEnvelope parseContext begins same parseGroup byteFrom lastFrom

@@ -14,7 +14,6 @@ use Rattle.format.specs.Refusals.{textTooLong, notUtf8}
 use Rattle.chars.specs.Utf8.{utf8}
 use Rattle.logs.specs.Lines.{Walked, behind, stopped, walk}
 use Rattle.logs.specs.Judge.{countLine, judgedBy, judgeLog}
-use Rattle.logs.specs.declared.Judged.{Judged}
 use Rattle.logs.specs.declared.Judged.the-variants.{Accepted, Refused}
 use Rattle.logs.proofs.Judging.{within-limits}
 use Rattle.guarantees.specs.Lines.{Within, logLines, EachReadOrBlank, eventsIn, FirstRefused}

@@ -1,10 +1,10 @@
 -- The tables that a call of `read_line` left, where it answered with an event: its pack stands in them, and its line is one that is read.
 -- Assumes nothing.
-use mathlib.Core.Path.{_≡_, refl, sym, ap, _∙_}
+use mathlib.Core.Path.{_≡_, refl, ap, _∙_}
 use mathlib.Core.Bool.{Bool, true, false, cond}
 use mathlib.Core.List.{List}
 use mathlib.Core.Logic.{_⊎_, inl, inr}
-use Prim.Native.Nat.{ℕ, _≤_, _^_}
+use Prim.Native.Nat.{ℕ}
 use native.Mathlib.Omega.{arith}
 use lib.Dec.{leb}
 use lib.ListN.{length, drop}
@@ -19,8 +19,8 @@ use Rattle.pack.proofs.Appended.{pack-is}
 use Rattle.heads.specs.Outcome.{Outcome, ok}
 use Rattle.events.specs.Event.{Event, putEvent}
 use Rattle.events.specs.Line.{parseLine}
-use Rattle.events.specs.Answer.{Answer, event, blank, refused, eventOf, lineAnswer, readLine, packOf}
-use Rattle.lines.specs.Entry.{frontOf, answerOf, enough, holding}
+use Rattle.events.specs.Answer.{Answer, event, blank, refused, eventOf, lineAnswer, readLine}
+use Rattle.lines.specs.Entry.{frontOf, answerOf, enough}
 use Rattle.lines.specs.declared.LineRead.{LineRead}
 use Rattle.lines.specs.declared.LineRead.the-variants as LineRead
 use Rattle.guarantees.specs.Keys.{Accepted, tablesOf}

@@ -1,3 +1,4 @@
+pub mod EntryPoints
 pub mod Agreement
 pub mod PackKeys
 pub mod ProofSet

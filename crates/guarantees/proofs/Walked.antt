@@ -2,14 +2,14 @@
 -- Assumes nothing.
 use mathlib.Core.Path.{_≡_, refl, sym, ap, subst, _∙_}
 use mathlib.Core.List.{List, [], _∷_}
-use mathlib.Core.Logic.{_⊎_, inl, inr, _↔_}
-use Prim.Native.Nat.{ℕ, zero, suc, _+_, _-_, _≤_, _<_}
+use mathlib.Core.Logic.{inl, inr, _↔_}
+use Prim.Native.Nat.{ℕ, zero, suc, _+_, _-_, _<_}
 use native.Mathlib.Omega.{arith}
 use lib.ListN.{length, getD}
 use Rattle.events.specs.Answer.{Answer, event, blank, refused, lineAnswer, readLine}
 use Rattle.logs.specs.Lines.{Walked, behind, stopped, onward, walkFrom}
 use Rattle.logs.specs.Judge.{counted, countLine}
-use Rattle.guarantees.specs.Lines.{ReadOrBlank, EachReadOrBlank, FirstRefused, eventIn, eventsIn, lineAt, Numbered}
+use Rattle.guarantees.specs.Lines.{ReadOrBlank, EachReadOrBlank, FirstRefused, eventIn, eventsIn}
 
 -- ---- one line is not both
 

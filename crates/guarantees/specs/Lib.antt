@@ -2,3 +2,4 @@ pub mod Keys
 pub mod Lines
 pub mod Calls
 pub mod ProofSet
+pub mod Promised
