@@ -6,7 +6,7 @@ use mathlib.Core.Option.{none}
 use Prim.Native.Nat.{ℕ}
 use lib.ListN.{length}
 use Rattle.buffers.specs.Same.{same, among}
-use Rattle.chars.specs.Utf8.{charOf}
+use Rattle.chars.specs.Utf8.{charOf, utf8From}
 use Rattle.chars.specs.White.{wideWhite, white, whiteAt, trimFrom, trimEnd}
 use Rattle.cuts.specs.Scan.{opens, closes, step, hits, firstFrom, first, found}
 use Rattle.cuts.specs.Split.{onto, splitFrom, splitTopLevel}
@@ -28,7 +28,10 @@ use Rattle.entities.specs.Entries.{noEntry, countEntries, putEntries}
 use Rattle.entities.specs.Walk.{keysAt}
 use Rattle.events.specs.Event.{Event, putEvent}
 use Rattle.events.specs.Line.{parseArgs, byteFrom, lastFrom, whiteFrom, parseTime, begins, parseScope, parseEntitiesEnvelope, parseContext, parseGroup, lookup, parseLine}
+use Rattle.events.specs.Answer.{lineAnswer, readLine}
+use Rattle.logs.specs.Lines.{linesOf, marked, unmarked}
 use Rattle.guarantees.specs.Keys.{pastAll, entitiesNode, keysIn, entitiesBody, keyTextOf}
+use Rattle.guarantees.specs.Lines.{logLines, lineAt, eventsIn}
 
 -- `@0 entities(a::"":{})::""::k()` has one stored key, a::"": time, two that are absent, an array of one part, action, kind, two records,
 -- and then the entities
@@ -70,3 +73,15 @@ tightest = refl
 twelve : length (putEvent tight emptyPack .kinds) ≡ 12
 unfolding put putTexts countTexts countFields putEntries countEntries
 twelve = refl
+
+-- a line feed and `@0 ::""::k()`: the second line is that, and the first is blank
+abbrev small : List ℕ
+small = 64 ∷ 48 ∷ 32 ∷ 58 ∷ 58 ∷ 34 ∷ 34 ∷ 58 ∷ 58 ∷ 107 ∷ 40 ∷ 41 ∷ []
+
+second-line : lineAt 2 (logLines (10 ∷ small)) ≡ small
+unfolding linesOf unmarked marked onto
+second-line = refl
+
+one-event : eventsIn (logLines (10 ∷ small)) ≡ 1
+unfolding linesOf unmarked marked eventsIn readLine lineAnswer utf8From parseLine parseTime whiteFrom whiteAt white wideWhite charOf trimFrom trimEnd i64Of many value parseScope parseEntitiesEnvelope parseContext begins same parseGroup byteFrom lastFrom parseEventHead quoteOpenFrom Rattle.keys.specs.Entity.opens quoteFrom unescapeFrom kindIn doubleColon namesFrom parseArgs parts full splitTopLevel splitFrom onto parseFields lookup
+one-event = refl

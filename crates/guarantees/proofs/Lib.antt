@@ -1,5 +1,14 @@
+pub mod EntryPoints
+pub mod Agreement
+pub mod PackKeys
+pub mod ProofSet
 pub mod StoredKeys
+mod LineTexts
+mod Walked
+mod Judged
+mod Left
 mod Laying
 mod Standing
 mod EntryReading
+mod Facts
 mod Examples

@@ -1,5 +1,5 @@
--- The third demand: stored keys meet exactly where entities do, and read back. Of any two lines that are read, of one log or of two, with
--- whatever lies behind their packs in the tables. Each theorem is a few words that cite the file with the work.
+-- Stored keys meet exactly where entities do, and read back: of any two trimmed lines that are read, in any tables that begin with their
+-- packs. `PackKeys` says it of the tables that calls left. Each theorem is a few words that cite the file with the work.
 -- Assumes nothing.
 use mathlib.Core.Path.{_≡_, sym, ap, _∙_}
 use mathlib.Core.List.{List, [], _∷_, _++_}

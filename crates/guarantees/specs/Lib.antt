@@ -1,1 +1,5 @@
 pub mod Keys
+pub mod Lines
+pub mod Calls
+pub mod ProofSet
+pub mod Promised

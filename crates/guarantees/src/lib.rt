@@ -1,1 +1,1 @@
-// What is guaranteed of the whole product, as theorems. No code.
+// What is guaranteed of the whole product, as theorems. No code. Read proofs/ in this order: EntryPoints, Agreement, PackKeys, ProofSet.

@@ -1,0 +1,84 @@
+-- The tables that a call of `read_line` left, where it answered with an event: its pack stands in them, and its line is one that is read.
+-- Assumes nothing.
+use mathlib.Core.Path.{_≡_, refl, ap, _∙_}
+use mathlib.Core.Bool.{Bool, true, false, cond}
+use mathlib.Core.List.{List}
+use mathlib.Core.Logic.{_⊎_, inl, inr}
+use Prim.Native.Nat.{ℕ}
+use native.Mathlib.Omega.{arith}
+use lib.Dec.{leb}
+use lib.ListN.{length, drop}
+use borrow.Author.Tests.{leb-true}
+use Rattle.format.specs.Limits.{textLimit, lineLimit, nodesUsed, textsUsed}
+use Rattle.format.specs.Refusals.{textTooLong, notUtf8, lineTooLong, tableTooShort}
+use Rattle.format.specs.declared.Front.{Front}
+use Rattle.chars.specs.Utf8.{utf8}
+use Rattle.chars.specs.White.{empty, trim}
+use Rattle.pack.specs.Pack.{Pack, emptyPack}
+use Rattle.pack.proofs.Appended.{pack-is}
+use Rattle.heads.specs.Outcome.{Outcome, ok}
+use Rattle.events.specs.Event.{Event, putEvent}
+use Rattle.events.specs.Line.{parseLine}
+use Rattle.events.specs.Answer.{Answer, event, blank, refused, eventOf, lineAnswer, readLine}
+use Rattle.lines.specs.Entry.{frontOf, answerOf, enough}
+use Rattle.lines.specs.declared.LineRead.{LineRead}
+use Rattle.lines.specs.declared.LineRead.the-variants as LineRead
+use Rattle.guarantees.specs.Keys.{Accepted, tablesOf}
+use Rattle.guarantees.specs.Lines.{IsRead, ReadOrBlank}
+use Rattle.guarantees.specs.Calls.{ReadInto}
+use Rattle.guarantees.proofs.Standing.{tables-padded}
+
+-- ---- a line that is read
+
+outcome-read : (o : Outcome Event) (e : Event) → eventOf o ≡ event e → o ≡ ok e
+outcome-read (ok d) e h = let z : d ≡ e = cc in ap ok z
+outcome-read (Outcome.refused n) e h = let z : _≡_ {A = ℕ} 0 1 = cc in absurd (omega arith)
+
+line-read : (s : List ℕ) (e : Event) → lineAnswer s ≡ event e → Accepted (trim s) e
+unfolding lineAnswer
+line-read s e h = go (empty (trim s)) (leb (length (trim s)) lineLimit) refl h
+  where
+    go : (a b : Bool) → leb (length (trim s)) lineLimit ≡ b → cond a blank (cond b (eventOf (parseLine (trim s))) (refused lineTooLong)) ≡ event e → Accepted (trim s) e
+    go true b p h = let z : _≡_ {A = ℕ} 0 1 = cc in absurd (omega arith)
+    go false true p h = record { read = outcome-read (parseLine (trim s)) e h; short = omega (arith, leb-true (length (trim s)) lineLimit p) }
+    go false false p h = let z : _≡_ {A = ℕ} 0 1 = cc in absurd (omega arith)
+
+pub read-accepted : (s : List ℕ) {e : Event} → readLine s ≡ event e → Accepted (trim s) e
+unfolding readLine
+read-accepted s {e} h = line-read s e (go (leb (length s) textLimit) (utf8 s) h)
+  where
+    go : (a b : Bool) → cond a (cond b (lineAnswer s) (refused notUtf8)) (refused textTooLong) ≡ event e → lineAnswer s ≡ event e
+    go true true h = h
+    go true false h = let z : _≡_ {A = ℕ} 0 1 = cc in absurd (omega arith)
+    go false b h = let z : _≡_ {A = ℕ} 0 1 = cc in absurd (omega arith)
+
+-- ---- a call
+
+event-answer : (a : Answer) (f : Front) → LineRead.Event f ≡ answerOf a → (e : Event) × (a ≡ event e)
+event-answer (event e) f h = (e, refl)
+event-answer blank f h = let z : _≡_ {A = ℕ} 0 1 = cc in absurd (omega arith)
+event-answer (refused n) f h = let z : _≡_ {A = ℕ} 0 1 = cc in absurd (omega arith)
+
+-- tables that were too short are answered with no event
+long-enough : (b : Bool) (a : LineRead) (f : Front) → LineRead.Event f ≡ cond b a (LineRead.Refused tableTooShort) → b ≡ true
+long-enough true a f h = refl
+long-enough false a f h = let z : _≡_ {A = ℕ} 0 1 = cc in absurd (omega arith)
+
+module _ {s : List ℕ} {p q : Pack} where
+  enough-lent : {f : Front} → ReadInto s p (LineRead.Event f) q → enough (p .kinds) (p .numbers) (p .texts) ≡ true
+  enough-lent {f} w = long-enough _ (answerOf (readLine s)) f (w .answer)
+
+  pub event-read : {f : Front} → ReadInto s p (LineRead.Event f) q → IsRead s
+  event-read {f} w = event-answer (readLine s) f (rw (enough-lent w) at (w .answer))
+
+  pub left-tables : {f : Front} {e : Event} → ReadInto s p (LineRead.Event f) q → readLine s ≡ event e → (rest : Pack) × (q ≡ tablesOf e rest)
+  left-tables {f} {e} w h =
+      let b = enough-lent w in
+      let past : Pack = record { kinds = drop nodesUsed (p .kinds); numbers = drop nodesUsed (p .numbers); texts = drop textsUsed (p .texts) } in
+      let o = tables-padded nodesUsed textsUsed e past in
+      (o .0, pack-is _ _ (w .kinds ∙ rw (b, h)) (w .numbers ∙ rw (b, h)) (w .texts ∙ rw (b, h)) ∙ o .1)
+
+  pub taken-line : {r : LineRead} → ReadOrBlank s → enough (p .kinds) (p .numbers) (p .texts) ≡ true → ReadInto s p r q
+      → (r ≡ LineRead.Blank) ⊎ ((f : Front) × (r ≡ LineRead.Event f))
+  taken-line (inl h) b w = inl (w .answer ∙ rw (b, h))
+  taken-line (inr (e, h)) b w = inr (frontOf (putEvent e emptyPack), w .answer ∙ rw (b, h))
