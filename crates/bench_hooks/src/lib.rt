@@ -46,7 +46,7 @@ pub extern "C" fn bench_parse_value(
     s: &[u8],
 ) -> usize
     requires { ⌜ Room emptyFront (length (now s) + 1) (length (now s)) (now kinds) (now numbers) (now texts) ⌝ }
-    requires { ⌜ (length (now s) < length (now links)) × (length (now s) < 65536) ⌝ }
+    requires { ⌜ (length (now s) < 65536) × (length (now s) < length (now links)) ⌝ }
     ensures { λ r. ⌜ take r (now (kinds .exit)) ≡ kindsRead (readValue levels (now (s .entry)) emptyPack) ⌝ }
 {
     let front = Front { nodes: 0, texts: 0 };
