@@ -49,8 +49,7 @@ fn refused(cases: &mut Cases, op: u8, log: &[u8], number: u8, line: usize) {
 /// Tables that are too short are refused before the log is looked at, at line 0.
 fn short_tables(cases: &mut Cases, hand: &Hand) {
     let too_long = vec![b' '; TEXT + 1];
-    let logs: [&[u8]; 6] =
-        [b"", b"\n\n", &hand.list("logs")[0], b"\nx", b"@0 \xff", &too_long];
+    let logs: [&[u8]; 6] = [b"", b"\n\n", &hand.list("logs")[0], b"\nx", b"@0 \xff", &too_long];
     for op in 3..=5 {
         logs.iter().for_each(|log| refused(cases, op, log, 1, 0));
     }
