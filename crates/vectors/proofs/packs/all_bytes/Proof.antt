@@ -1,7 +1,6 @@
 -- `vectors::packs::all_bytes` is safe: the last place is within the table.
 -- Assumes nothing.
 use Prim.Native.Nat.{_≤_, _-_}
-use native.Mathlib.Omega.{arith}
 use borrow.Author.Needs.{needs}
 use Rattle.vectors.proofs.packs.all_bytes.Statement.{statement}
 use Rattle.vectors.proofs.packs.all_bytes.Tie as tie

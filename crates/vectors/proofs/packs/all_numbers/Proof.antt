@@ -1,7 +1,6 @@
 -- `vectors::packs::all_numbers` is safe: the last place is within the table.
 -- Assumes nothing.
 use Prim.Native.Nat.{_≤_, _-_}
-use native.Mathlib.Omega.{arith}
 use borrow.Author.Needs.{needs}
 use Rattle.vectors.proofs.packs.all_numbers.Statement.{statement}
 use Rattle.vectors.proofs.packs.all_numbers.Tie as tie
