@@ -1,11 +1,16 @@
 //! One vector file being made.
 
+use crate::pieces::pieces;
 use std::collections::{BTreeMap, BTreeSet};
 
 /// What a replaying program's buffers must hold.
 pub const LONGEST: usize = 70_000;
 /// What a vector file may reach.
-const LARGEST: usize = 1_500_000;
+const LARGEST: usize = 1_000_000;
+/// A length from here on is that of a text in pieces, plus this.
+const IN_PIECES: u32 = 1 << 31;
+/// Shorter texts stand as they are.
+const LONG: usize = 256;
 
 #[derive(Default)]
 pub struct Cases {
@@ -27,11 +32,23 @@ impl Cases {
         self.count += 1;
         self.longest = (self.longest.0.max(input.len()), self.longest.1.max(answer.len()));
         self.body.push(op);
-        for part in [input, answer] {
-            self.body.extend((part.len() as u32).to_le_bytes());
-            self.body.extend(part);
-        }
+        self.text(input);
+        self.text(answer);
         true
+    }
+
+    fn text(&mut self, text: &[u8]) {
+        let length = text.len() as u32;
+        if text.len() >= LONG {
+            let pieces = pieces(text);
+            if pieces.len() < text.len() {
+                self.body.extend((IN_PIECES + length).to_le_bytes());
+                self.body.extend(pieces);
+                return;
+            }
+        }
+        self.body.extend(length.to_le_bytes());
+        self.body.extend(text);
     }
 
     /// A case whose answer is this refusal.

@@ -1,10 +1,10 @@
-//! Lines. Op: 1 the pack of a line.
+//! Lines: the pack of a line. The op says which tables are lent: 1 longer than needed, 2 just long
+//! enough, 3 to 5 one entry short of kinds, of numbers, of texts.
 
 use crate::cases::Cases;
 use crate::damage::damaged;
 use crate::grammar::Grammar;
 use crate::hand::Hand;
-use crate::random::Random;
 use oracle::limits::{self, LINE, TEXT};
 use oracle::pack::Pack;
 
@@ -12,30 +12,46 @@ pub const HEAD: &str = "::\"\"::k";
 
 pub fn make(cases: &mut Cases, hand: &Hand) {
     add(cases, b"");
-    hand.list("lines").iter().for_each(|line| add(cases, line));
-    sizes().iter().for_each(|line| add(cases, line.as_bytes()));
+    for line in hand.list("lines") {
+        add(cases, line);
+        add_with(cases, 2, line);
+    }
+    for line in sizes() {
+        add(cases, line.as_bytes());
+        add_with(cases, 2, line.as_bytes());
+    }
+    for value in hand.list("values").iter().chain(hand.list("numbers")) {
+        add(cases, &[format!("@0 {HEAD}(v:").as_bytes(), value, b")"].concat());
+    }
     depths(cases);
+    escapes(cases, hand);
     refused_as_text(cases);
-    two_faults(cases);
+    short_tables(cases, hand);
+    several_faults(cases);
+    faulty_entries(cases);
     random(cases, 6, 700);
     // Every number that parse_line can give. 35 is not among them: what ends at its matching
     // brace is always read as a record.
-    cases.must_refuse((2..=4).chain(10..=34), 4);
+    cases.must_refuse((1..=4).chain(10..=34), 4);
 }
 
 fn add(cases: &mut Cases, line: &[u8]) {
+    add_with(cases, 1, line);
+}
+
+fn add_with(cases: &mut Cases, op: u8, line: &[u8]) {
     match limits::line(line) {
         Ok(Some((trimmed, event))) => {
             let pack = Pack::of_event(trimmed, &event);
             // What the code relies on to have room.
             assert!(pack.kinds.len() <= trimmed.len(), "more nodes than bytes: {trimmed}");
             assert!(pack.texts.len() <= 6 * trimmed.len(), "more texts than thought: {trimmed}");
-            cases.add(1, line, &[&[1], &pack.bytes()[..]].concat());
+            cases.add(op, line, &[&[1], &pack.bytes()[..]].concat());
         }
         Ok(None) => {
-            cases.add(1, line, &[2]);
+            cases.add(op, line, &[2]);
         }
-        Err(number) => cases.refused(1, line, number, &[0, number]),
+        Err(number) => cases.refused(op, line, number, &[0, number]),
     }
 }
 
@@ -50,13 +66,22 @@ pub fn filled(length: usize) -> String {
 pub fn sizes() -> Vec<String> {
     let mut lines = Vec::new();
     for length in LINE - 1..=LINE + 1 {
-        lines.push(filled(length));
-        lines.push(format!(" {}\n", filled(length)));
-        lines.push(format!("{}{}", filled(length - 2), "\u{3000}".repeat(3)));
+        let whole = filled(length);
+        lines.push(format!(" {whole}"));
+        lines.push(format!("{whole}\n"));
+        lines.push(format!("\u{3000}{whole}\r\n"));
+        lines.push(format!("{}{whole}{}", "\t".repeat(LINE), "\u{a0}".repeat(LINE)));
+        // So long before trimming.
+        lines.push(format!(" {}", filled(length - 1)));
+        lines.push(format!("{}\u{85}", filled(length - 2)));
+        lines.push(format!(" {}\u{2028}", filled(length - 4)));
+        lines.push(" ".repeat(length));
+        lines.push("\u{85}".repeat(length));
+        // The last bytes are a character of several.
+        lines.push(format!("@0 {HEAD}(){}é", ")".repeat(length - 14)));
         lines.push(format!("@0{}{HEAD}()", " ".repeat(length - 11)));
         lines.push("x".repeat(length));
-        lines.push("\u{85}".repeat(length));
-        lines.push(format!("@0 {HEAD}()") + &")".repeat(length - 12));
+        lines.push(whole);
     }
     let room = LINE - 40;
     let raw = "\u{7f}".repeat(room);
@@ -64,6 +89,8 @@ pub fn sizes() -> Vec<String> {
     lines.push(format!("@0 entities(::\"{}\":{{}}){HEAD}()", "\u{10ffff}".repeat(room / 4)));
     lines.push(format!("@0 {HEAD}({})", "[],".repeat(room / 3)));
     lines.push(format!("@0 {HEAD}(v:[{}])", "1,".repeat(room / 2)));
+    lines.push(format!("@0 {HEAD}(v:[{}])", "::\"\",".repeat(room / 5)));
+    lines.push(format!("@0 entities(::\"\":{{}}in[{}]){HEAD}()", "::\"\",".repeat(room / 5)));
     lines.push(format!("@0 {}::\"\"::k()", "::".repeat(room / 2)));
     let names: String = (0..400).map(|n| format!("n{n}:{n},")).collect();
     lines.push(format!("@0 {HEAD}({names})"));
@@ -93,23 +120,47 @@ fn depths(cases: &mut Cases) {
     }
 }
 
+/// The texts of the escapes in every place that decodes and in those that do not.
+fn escapes(cases: &mut Cases, hand: &Hand) {
+    for text in hand.list("escapes") {
+        let text = std::str::from_utf8(text).expect("escapes are of UTF-8");
+        add(cases, format!("@0 {HEAD}(v:\"{text}\")").as_bytes());
+        add(cases, format!("@0 {HEAD}(v:{{\"{text}\":{text}}},{text}:T::\"{text}\")").as_bytes());
+        add(cases, format!("@0 {text}::\"{text}\"::{text}()").as_bytes());
+        add(cases, format!("@0 entities(T::\"{text}\":{{}}){HEAD}()").as_bytes());
+    }
+}
+
 fn refused_as_text(cases: &mut Cases) {
     let line = filled(100).into_bytes();
     for bad in [&b"\xff"[..], b"\xc3", b"\xed\xa0\x80", b"\xf4\x90\x80\x80"] {
         add(cases, &[bad, &line].concat());
         add(cases, &[&line, bad].concat());
+        add(cases, &[bad, b"x"].concat());
     }
     add(cases, &[&vec![b'x'; LINE + 1][..], b"\xff"].concat());
-    for length in [TEXT, TEXT + 1] {
+    for length in [TEXT - 1, TEXT, TEXT + 1] {
         add(cases, &vec![b' '; length]);
+        add(cases, &vec![b'@'; length]);
         add(cases, &[&vec![b' '; length - 100], &line[..]].concat());
+        add(cases, &[&vec![b' '; length - 1], b"\xff".as_slice()].concat());
     }
-    add(cases, &vec![b'@'; TEXT + 1]);
-    add(cases, &[&vec![b' '; TEXT], b"\xff".as_slice()].concat());
 }
 
-/// Every fault before every other, so that the order shows.
-fn two_faults(cases: &mut Cases) {
+/// Tables that are too short are refused before the line is looked at.
+fn short_tables(cases: &mut Cases, hand: &Hand) {
+    let example = &hand.list("lines")[0];
+    let too_long = vec![b' '; TEXT + 1];
+    let long_line = filled(LINE + 1);
+    let lines: [&[u8]; 7] =
+        [b"", b" \n", example, b"x", b"@0 \xff", &too_long, long_line.as_bytes()];
+    for op in 3..=5 {
+        lines.iter().for_each(|line| cases.refused(op, line, 1, &[0, 1]));
+    }
+}
+
+/// Every fault beside every other, so that the order shows.
+fn several_faults(cases: &mut Cases) {
     let scopes = ["", "scope(a)", "scope(a:1,a:1)", "scope(p:{a})"];
     let entities = [
         "",
@@ -136,16 +187,31 @@ fn two_faults(cases: &mut Cases) {
         "::\"\"::k(a:1,a:2)",
         "::\"\"::k()",
     ];
-    let mut random = Random::new(16);
     for scope in scopes {
         for entity in entities {
             for context in contexts {
                 for end in ends {
-                    // All together are many: every second suffices, and those with few faults.
-                    let faults =
-                        [scope, entity, context].iter().filter(|part| !part.is_empty()).count();
-                    if faults < 2 || random.once_in(3) {
-                        add(cases, format!("@0 {scope} {entity} {context} {end}").as_bytes());
+                    add(cases, format!("@0 {scope} {entity} {context} {end}").as_bytes());
+                }
+            }
+        }
+    }
+    for front in ["", "0 ", "@", "@0", "@x ", "@ 0 ", "@9223372036854775808 "] {
+        for rest in ["", "scope(", "entities(x)x", "x(", "::\"\"::k()"] {
+            add(cases, format!("{front}{rest}").as_bytes());
+        }
+    }
+}
+
+/// Every fault of an entry beside every other, with an entry before it whose key it may repeat.
+fn faulty_entries(cases: &mut Cases) {
+    for before in ["", "T::\"a\":{},"] {
+        for key in ["T::\"a\"", "x", "[{a}]", "{a:1,a:1}", ""] {
+            for colon in [":", ""] {
+                for record in ["{}", "{b}", "{b:1,b:1}", "{(}", "{", "[{}]"] {
+                    for tail in ["", "y", "in", "in[1]", "in[{c}]", "in[T::\"a\"]"] {
+                        let entry = format!("{before}{key}{colon}{record}{tail}");
+                        add(cases, format!("@0 entities({entry}){HEAD}()").as_bytes());
                     }
                 }
             }

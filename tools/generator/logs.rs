@@ -1,4 +1,4 @@
-//! Logs. Op: 1 judged.
+//! Logs: how a log is judged. The op says which tables are lent, as for lines.
 
 use crate::cases::Cases;
 use crate::grammar::Grammar;
@@ -11,7 +11,10 @@ const ENDS: [&str; 10] =
 
 pub fn make(cases: &mut Cases, hand: &Hand) {
     add(cases, b"");
-    hand.list("logs").iter().for_each(|log| add(cases, log));
+    for log in hand.list("logs") {
+        add(cases, log);
+        add_with(cases, 2, log);
+    }
     for line in hand.list("lines") {
         // A refusal's line, and that later lines are not waved through.
         add(cases, &[b"@0 ::\"\"::k()\r\n\n", &line[..], b"\nx"].concat());
@@ -19,20 +22,36 @@ pub fn make(cases: &mut Cases, hand: &Hand) {
     sizes(cases);
     depths(cases);
     bad_utf8(cases);
+    short_tables(cases, hand);
     random(cases);
-    cases.must_refuse([2, 3, 4].into_iter().chain(10..=34), 2);
+    cases.must_refuse((1..=4).chain(10..=34), 2);
 }
 
 fn add(cases: &mut Cases, log: &[u8]) {
+    add_with(cases, 1, log);
+}
+
+fn add_with(cases: &mut Cases, op: u8, log: &[u8]) {
     match limits::log(log) {
         Ok(events) => {
             let count = (events.len() as u32).to_le_bytes();
-            cases.add(1, log, &[&[1], &count[..]].concat());
+            cases.add(op, log, &[&[1], &count[..]].concat());
         }
-        Err((number, line)) => {
-            let line = (line as u32).to_le_bytes();
-            cases.refused(1, log, number, &[&[0, number], &line[..]].concat());
-        }
+        Err((number, line)) => refused(cases, op, log, number, line),
+    }
+}
+
+fn refused(cases: &mut Cases, op: u8, log: &[u8], number: u8, line: usize) {
+    let line = (line as u32).to_le_bytes();
+    cases.refused(op, log, number, &[&[0, number], &line[..]].concat());
+}
+
+/// Tables that are too short are refused before the log is looked at, at line 0.
+fn short_tables(cases: &mut Cases, hand: &Hand) {
+    let too_long = vec![b' '; TEXT + 1];
+    let logs: [&[u8]; 6] = [b"", b"\n\n", &hand.list("logs")[0], b"\nx", b"@0 \xff", &too_long];
+    for op in 3..=5 {
+        logs.iter().for_each(|log| refused(cases, op, log, 1, 0));
     }
 }
 
@@ -42,9 +61,15 @@ fn sizes(cases: &mut Cases) {
         let lines = line.repeat(length / line.len());
         let fill = " ".repeat(length - lines.len());
         add(cases, format!("{lines}{fill}").as_bytes());
+        add_with(cases, 2, format!("{lines}{fill}").as_bytes());
+        add(cases, format!("{fill}{lines}").as_bytes());
         add(cases, format!("\u{feff}{}", " ".repeat(length - 3)).as_bytes());
+        // 2 before 3, and 3 only where the text is not too long.
+        add(cases, &[" ".repeat(length - 1).as_bytes(), b"\xff"].concat());
+        add(cases, format!("{}é", "\n".repeat(length - 2)).as_bytes());
     }
-    // As many lines as can be: blank, of one byte, and refused at the last.
+    // As many events as fit, and as many lines: all blank, and the last refused.
+    add(cases, format!("@0 {HEAD}()\n").repeat(TEXT / 13).as_bytes());
     add(cases, "\n".repeat(TEXT).as_bytes());
     add(cases, format!("{}x", "\n".repeat(TEXT - 1)).as_bytes());
     add(cases, format!("{}\n", filled(LINE)).repeat(15).as_bytes());

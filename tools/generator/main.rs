@@ -11,6 +11,7 @@ mod lines;
 mod listings;
 mod logs;
 mod numbers;
+mod pieces;
 mod random;
 mod values;
 

@@ -5,11 +5,19 @@
 mod chars_cases;
 mod cuts_cases;
 mod escapes_cases;
+mod input;
+mod lines_cases;
 mod little;
+mod logs_cases;
 mod numbers_cases;
+mod packs;
+mod tables;
 mod values_cases;
 
-use libc::STDIN_FILENO;
+use crate::input::Got;
+use crate::input::read_byte;
+use crate::input::read_number;
+use crate::input::read_text;
 use libc::STDOUT_FILENO;
 
 // How many cases were read, how many answers differ, and the last case that does, counted from one.
@@ -20,45 +28,6 @@ pub struct Tally {
     pub whole: bool,
 }
 
-// What standard input gave.
-enum Got {
-    Number(usize),
-    End,
-}
-
-fn read_byte() -> Got {
-    let mut bytes = [0u8; 1];
-    let n = io::read_full(STDIN_FILENO, &mut bytes);
-    if n < 1 {
-        return Got::End;
-    }
-    Got::Number(little::byte(&bytes, 0) as usize)
-}
-
-fn read_number() -> Got {
-    let mut bytes = [0u8; 4];
-    let n = io::read_full(STDIN_FILENO, &mut bytes);
-    if n < 4 {
-        return Got::End;
-    }
-    Got::Number(little::four(&bytes, 0) as usize)
-}
-
-// A text behind its length, which is the answer.
-fn read_text(text: &mut [u8]) -> Got {
-    let Got::Number(len) = read_number() else {
-        return Got::End;
-    };
-    if len > text.len() {
-        return Got::End;
-    }
-    let n = io::read_full(STDIN_FILENO, &mut text[..len]);
-    if n < len {
-        return Got::End;
-    }
-    Got::Number(len)
-}
-
 // Does our function give this answer?
 fn agrees(group: usize, op: usize, input: &[u8], answer: &[u8]) -> bool {
     match group {
@@ -67,6 +36,8 @@ fn agrees(group: usize, op: usize, input: &[u8], answer: &[u8]) -> bool {
         3 => cuts_cases::agrees(op, input, answer),
         4 => escapes_cases::agrees(op, input, answer),
         5 => values_cases::agrees(op, input, answer),
+        6 => tables::agrees(group, op, input, answer),
+        7 => tables::agrees(group, op, input, answer),
         _ => false,
     }
 }
