@@ -8,7 +8,8 @@ pub struct Hand {
     lists: BTreeMap<String, Vec<Vec<u8>>>,
 }
 
-const NAMES: [&str; 8] = ["chars", "escapes", "keys", "cuts", "numbers", "values", "lines", "logs"];
+const NAMES: [&str; 9] =
+    ["chars", "escapes", "keys", "cuts", "numbers", "values", "lines", "logs", "listings"];
 
 impl Hand {
     pub fn in_folder(folder: &str) -> Hand {

@@ -10,6 +10,7 @@ mod hand;
 mod lines;
 mod listings;
 mod logs;
+mod nights;
 mod numbers;
 mod pieces;
 mod random;
@@ -21,7 +22,7 @@ use std::process::exit;
 
 type Maker = fn(&mut Cases, &Hand);
 
-const FILES: [(&str, Maker); 8] = [
+const FILES: [(&str, Maker); 9] = [
     ("chars", chars::make),
     ("escapes", escapes::make),
     ("cuts", cuts::make),
@@ -30,6 +31,7 @@ const FILES: [(&str, Maker); 8] = [
     ("lines", lines::make),
     ("logs", logs::make),
     ("listings", listings::make),
+    ("nights", nights::make),
 ];
 
 fn main() {
