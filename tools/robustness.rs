@@ -1,6 +1,6 @@
 //! Runs the night listing on inputs and outputs that a terminal seldom has: pieces of one byte, sizes at the limit, random bytes, outputs
 //! that fail. In every case the program must end by itself, and what it wrote must be the oracle's listing, or as much of it as the output
-//! took. Takes the program's path; prints each case that failed, and how many there were.
+//! took. The manual's examples are cases too. Takes the paths of program and manual; prints each case that failed, and how many there were.
 
 use oracle::answers;
 use std::fs::{self, File, OpenOptions};
@@ -454,17 +454,77 @@ fn outputs(t: &mut Tester) {
     t.slow_reader("a slow reader", &long);
 }
 
+/// The rows of a table below this head, as cells. Code loses its backticks.
+fn rows(manual: &str, head: &str) -> Vec<Vec<String>> {
+    let below = manual.split(head).skip(1);
+    let tables = below.map(|text| text.lines().skip(1).take_while(|row| row.starts_with('|')));
+    let cells = |row: &str| row.trim_matches('|').split('|').map(|cell| cell.trim().to_string()).collect();
+    tables.flatten().map(cells).collect()
+}
+
+/// What a cell has as code, where it is nothing but that.
+fn code(cell: &str) -> Option<&str> {
+    cell.strip_prefix('`')?.strip_suffix('`').filter(|code| !code.contains('`'))
+}
+
+/// The text of the first block of this language.
+fn block<'a>(manual: &'a str, language: &str) -> &'a str {
+    let text = manual.split(&format!("```{language}\n")).nth(1).expect("a block");
+    text.split("```").next().expect("its end")
+}
+
+/// A node's number as the manual writes it.
+fn node_number(cell: &str) -> u64 {
+    let number = |text: &str| text.parse::<u64>().expect("a number");
+    match cell.split_once("·2^32 + ") {
+        Some((start, length)) => number(start) << 32 | number(length),
+        None if cell == "2^64 - 1" => u64::MAX,
+        None => number(cell),
+    }
+}
+
+/// The manual says what the program and the Rust give.
+fn manual(t: &mut Tester, manual: &str) {
+    let values = rows(manual, "| Listed |\n");
+    assert!(values.len() > 20);
+    for row in &values {
+        let (written, listed) = (code(&row[0]).expect("code"), code(&row[2]).expect("code"));
+        let log = format!("@0 ::\"\"::k(v: {written})");
+        let expected = answers::night_listing(log.as_bytes());
+        assert!(expected.contains(&format!("\nlogged {{\"v\":{listed}}}\n")), "manual: {written}");
+        t.whole(&format!("manual: {written}"), log.as_bytes());
+    }
+    let refusals = rows(manual, "| Remedy |\n");
+    let examples: Vec<_> = refusals.iter().filter_map(|row| Some((&row[0], code(&row[2])?))).collect();
+    assert!(refusals.len() == 31 && examples.len() == 24);
+    for (number, example) in examples {
+        let refused = |log: &str| answers::night_listing(log.as_bytes()).starts_with(&format!("refused {number} "));
+        let smaller = (0..example.len()).map(|at| format!("{}{}", &example[..at], &example[at + 1..]));
+        assert!(refused(example) && !smaller.into_iter().any(|log| refused(&log)), "manual: {number}");
+        t.whole(&format!("manual: refusal {number}"), example.as_bytes());
+    }
+    let log = block(manual, "log");
+    assert_eq!(answers::night_listing(log.as_bytes()), block(manual, "listing"));
+    t.whole("manual: the listing", log.as_bytes());
+    let nodes = rows(manual, "| Node | Kind | Number | |\n");
+    let line = manual.split("\nThe line `").nth(1).and_then(|text| text.split('`').next()).expect("a line");
+    let printed: Vec<String> = nodes.iter().map(|row| format!("{} {}", row[1], node_number(&row[2]))).collect();
+    assert!(answers::pack(line.as_bytes()).contains(&format!("nodes {} texts 24\n{}\n", nodes.len(), printed.join("\n"))));
+}
+
 fn main() {
-    let Some(program) = std::env::args().nth(1) else {
-        eprintln!("usage: robustness PROGRAM");
+    let (Some(program), Some(path)) = (std::env::args().nth(1), std::env::args().nth(2)) else {
+        eprintln!("usage: robustness PROGRAM MANUAL");
         exit(2);
     };
+    let text = fs::read_to_string(path).expect("the manual");
     let scratch = std::env::temp_dir().join(format!("robustness-{}", std::process::id()));
     fs::create_dir_all(&scratch).expect("create_dir_all");
     let mut tester = Tester { program, scratch, cases: 0, failed: 0 };
     inputs(&mut tester);
     pieces(&mut tester);
     outputs(&mut tester);
+    manual(&mut tester, &text);
     fs::remove_dir_all(&tester.scratch).expect("remove_dir_all");
     println!("robustness of {}: {} cases, {} failed", tester.program, tester.cases, tester.failed);
     if tester.failed > 0 {
