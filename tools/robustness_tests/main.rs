@@ -1,0 +1,151 @@
+//! Runs the night listing on inputs and outputs that a terminal seldom has: pieces of one byte, sizes at the limit, random bytes, outputs
+//! that fail. In every case the program must end by itself, and what it wrote must be the oracle's listing, or as much of it as the output
+//! took. The manual's examples are cases too. Takes the paths of program and manual; prints each case that failed, and how many there were.
+
+mod logs;
+mod manual;
+mod tester;
+
+use logs::{EXAMPLE, LINE, LOG, Random, crowded, is_listed, log_of, sketched, wide_log, widest};
+use std::fs;
+use std::process::exit;
+use std::time::Duration;
+use tester::Tester;
+
+fn inputs(t: &mut Tester) {
+    t.whole("no input", b"");
+    t.whole("the example", EXAMPLE.as_bytes());
+    t.whole("no line feed at the end", EXAMPLE.trim_end().as_bytes());
+    t.whole(
+        "a refusal behind an event",
+        format!("{EXAMPLE}\n@x\n{EXAMPLE}").as_bytes(),
+    );
+    t.whole("nothing but line feeds", &vec![b'\n'; LOG]);
+    for size in [LOG - 1, LOG, LOG + 1, LOG + 2, 2 * LOG, 1_000_000] {
+        t.whole(&format!("{size} bytes"), &log_of(size));
+    }
+    assert!(
+        is_listed(&log_of(LOG))
+            && is_listed(&widest(LINE))
+            && is_listed(&crowded(LINE))
+            && is_listed(&wide_log())
+    );
+    for size in [LINE, LINE + 1] {
+        t.whole(&format!("the widest line of {size} bytes"), &widest(size));
+        t.whole(&format!("a crowded line of {size} bytes"), &crowded(size));
+    }
+    t.whole("the widest lines, fifteen", &wide_log());
+    let mut random = Random(1);
+    for n in 0..100 {
+        let size = random.below(70_000) as usize;
+        let bytes = random.bytes(size);
+        t.whole(&format!("random bytes {n}"), &bytes);
+    }
+    let logs: Vec<Vec<u8>> = (0..300).map(|_| sketched(&mut random)).collect();
+    assert!(logs.iter().filter(|log| is_listed(log)).count() > 100);
+    for (n, log) in logs.iter().enumerate() {
+        t.whole(&format!("random log {n}"), log);
+    }
+}
+
+fn pieces(t: &mut Tester) {
+    t.pipe_of_bytes("single bytes through a pipe", &log_of(2_000));
+    t.pipe_of_bytes("single bytes, refused", b"@40 a::\"b\"::c(\n");
+    t.datagrams("single bytes", EXAMPLE.as_bytes(), 1);
+    for size in [LOG, LOG + 1] {
+        t.datagrams(&format!("{size} single bytes"), &log_of(size), 1);
+    }
+    for piece in [2, 7, 4_095, 4_096, 4_097, 60_000] {
+        t.datagrams(&format!("pieces of {piece}"), &log_of(LOG), piece);
+    }
+    t.unreadable("a closed input", "exec \"$0\" <&-");
+    t.unreadable("a folder for input", "exec \"$0\" </");
+}
+
+/// Outputs that take nothing.
+fn shut_outputs(t: &mut Tester, name: &str, input: &[u8]) {
+    t.shut(
+        &format!("{name} to a closed output"),
+        "exec \"$0\" >&-",
+        input,
+    );
+    t.shut(
+        &format!("{name} to a full device"),
+        "exec \"$0\" >/dev/full",
+        input,
+    );
+    for ignored in [false, true] {
+        let name = format!("{name} to a pipe closed at once, signal ignored: {ignored}");
+        t.cut_off(&name, input, 0, ignored);
+    }
+}
+
+/// Outputs that take something and then nothing.
+fn ending_outputs(t: &mut Tester, input: &[u8]) {
+    for ignored in [false, true] {
+        for after in [1, 9_999] {
+            let name = format!("a pipe closed behind {after} bytes, signal ignored: {ignored}");
+            t.cut_off(&name, input, after, ignored);
+        }
+        for blocks in [0, 1, 2, 7, 100, 10_000] {
+            let name = format!("a file of {blocks} blocks, signal ignored: {ignored}");
+            t.limited_file(&name, input, blocks, ignored);
+        }
+    }
+}
+
+/// Outputs that take all, or could, but not at once.
+fn slow_outputs(t: &mut Tester) {
+    let (long, wide) = (log_of(LOG), wide_log());
+    for n in 0..20 {
+        let pause = Duration::from_millis(2 * n);
+        t.hasty_pipe(
+            &format!("a pipe that does not wait, read behind {pause:?}"),
+            &wide,
+            pause,
+        );
+        t.hasty_pipe(
+            &format!("the same, short events, read behind {pause:?}"),
+            &long,
+            pause,
+        );
+    }
+    t.stopped("stopped while it writes", &wide);
+    t.stopped("stopped while it writes short events", &long);
+    t.slow_reader("a slow reader", &long);
+}
+
+fn main() {
+    let (Some(program), Some(path)) = (std::env::args().nth(1), std::env::args().nth(2)) else {
+        eprintln!("usage: robustness PROGRAM MANUAL");
+        exit(2);
+    };
+    let text = fs::read_to_string(path).expect("the manual");
+    let scratch = std::env::temp_dir().join(format!("robustness-{}", std::process::id()));
+    fs::create_dir_all(&scratch).expect("create_dir_all");
+    let mut tester = Tester {
+        program,
+        scratch,
+        cases: 0,
+        failed: 0,
+    };
+    inputs(&mut tester);
+    pieces(&mut tester);
+    shut_outputs(&mut tester, "an event", EXAMPLE.as_bytes());
+    shut_outputs(&mut tester, "a long log", &log_of(LOG));
+    shut_outputs(&mut tester, "a refusal", b"@");
+    shut_outputs(&mut tester, "no input", b"");
+    ending_outputs(&mut tester, &log_of(LOG));
+    slow_outputs(&mut tester);
+    manual::values(&mut tester, &text);
+    manual::refusals(&mut tester, &text);
+    manual::event(&mut tester, &text);
+    fs::remove_dir_all(&tester.scratch).expect("remove_dir_all");
+    println!(
+        "robustness of {}: {} cases, {} failed",
+        tester.program, tester.cases, tester.failed
+    );
+    if tester.failed > 0 {
+        exit(1);
+    }
+}

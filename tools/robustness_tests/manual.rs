@@ -1,0 +1,101 @@
+//! The manual's examples: it says what the program and the Rust give.
+
+use crate::tester::Tester;
+use oracle::answers;
+
+/// The rows of a table below this head, as cells. Code loses its backticks.
+fn rows(manual: &str, head: &str) -> Vec<Vec<String>> {
+    let below = manual.split(head).skip(1);
+    let tables = below.map(|text| text.lines().skip(1).take_while(|row| row.starts_with('|')));
+    let cells = |row: &str| {
+        row.trim_matches('|')
+            .split('|')
+            .map(|cell| cell.trim().to_string())
+            .collect()
+    };
+    tables.flatten().map(cells).collect()
+}
+
+/// What a cell has as code, where it is nothing but that.
+fn code(cell: &str) -> Option<&str> {
+    cell.strip_prefix('`')?
+        .strip_suffix('`')
+        .filter(|code| !code.contains('`'))
+}
+
+/// The text of the first block of this language.
+fn block<'a>(manual: &'a str, language: &str) -> &'a str {
+    let text = manual
+        .split(&format!("```{language}\n"))
+        .nth(1)
+        .expect("a block");
+    text.split("```").next().expect("its end")
+}
+
+/// A node's number as the manual writes it.
+fn node_number(cell: &str) -> u64 {
+    let number = |text: &str| text.parse::<u64>().expect("a number");
+    match cell.split_once("·2^32 + ") {
+        Some((start, length)) => number(start) << 32 | number(length),
+        None if cell == "2^64 - 1" => u64::MAX,
+        None => number(cell),
+    }
+}
+
+/// The tables of values and escapes: each value as it is listed.
+pub fn values(t: &mut Tester, manual: &str) {
+    let table = rows(manual, "| Listed |\n");
+    assert!(table.len() > 20);
+    for row in &table {
+        let (written, listed) = (code(&row[0]).expect("code"), code(&row[2]).expect("code"));
+        let log = format!("@0 ::\"\"::k(v: {written})");
+        let line = format!("\nlogged {{\"v\":{listed}}}\n");
+        assert!(
+            answers::night_listing(log.as_bytes()).contains(&line),
+            "manual: {written}"
+        );
+        t.whole(&format!("manual: {written}"), log.as_bytes());
+    }
+}
+
+/// The table of refusals: each example is refused for its reason, and for another or none where a byte is left out.
+pub fn refusals(t: &mut Tester, manual: &str) {
+    let table = rows(manual, "| Remedy |\n");
+    let examples = table
+        .iter()
+        .filter_map(|row| Some((&row[0], code(&row[2])?)));
+    let examples: Vec<_> = examples.collect();
+    assert!(table.len() == 31 && examples.len() == 24);
+    for (number, example) in examples {
+        let start = format!("refused {number} ");
+        let refused = |log: &str| answers::night_listing(log.as_bytes()).starts_with(&start);
+        let without = |at: usize| format!("{}{}", &example[..at], &example[at + 1..]);
+        assert!(refused(example), "manual: {number}");
+        assert!(
+            !(0..example.len()).any(|at| refused(&without(at))),
+            "manual: {number}"
+        );
+        t.whole(&format!("manual: refusal {number}"), example.as_bytes());
+    }
+}
+
+/// The listing, and the nodes of a pack.
+pub fn event(t: &mut Tester, manual: &str) {
+    let log = block(manual, "log");
+    assert_eq!(
+        answers::night_listing(log.as_bytes()),
+        block(manual, "listing")
+    );
+    t.whole("manual: the listing", log.as_bytes());
+    let line = manual.split("\nThe line `").nth(1).expect("a line");
+    let line = line.split('`').next().expect("its end");
+    let mut printed = String::new();
+    for row in rows(manual, "| Node | Kind | Number | |\n") {
+        printed += &format!("{} {}\n", row[1], node_number(&row[2]));
+    }
+    let pack = answers::pack(line.as_bytes());
+    assert!(
+        pack.starts_with(&format!("nodes 21 texts 24\n{printed}")),
+        "manual: the pack"
+    );
+}
