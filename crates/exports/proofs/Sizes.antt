@@ -108,11 +108,11 @@ unfolding judgeLog
 judge-log-small s =
     by-cond SmallJudged (leb (length s) textLimit) _ _
     (λ h.
-      let l : length s ≤ textLimit = leb-true (length s) textLimit h in
-      let few : length (linesOf (unmarked s)) ≤ 65536 = omega (arith, l, lines-few (unmarked s), unmarked-few s) in
-      both-arms SmallJudged (utf8 s)
-      (walked-small (walkFrom countLine 1 0 (linesOf (unmarked s))) (walk-within 65536 65537 1 0 (linesOf (unmarked s)) (omega (arith, few)) (omega (arith, few))))
-      (omega arith))
+    let l : length s ≤ textLimit = leb-true (length s) textLimit h in
+    let few : length (linesOf (unmarked s)) ≤ 65536 = omega (arith, l, lines-few (unmarked s), unmarked-few s) in
+    both-arms SmallJudged (utf8 s)
+    (walked-small (walkFrom countLine 1 0 (linesOf (unmarked s))) (walk-within 65536 65537 1 0 (linesOf (unmarked s)) (omega (arith, few)) (omega (arith, few))))
+    (omega arith))
     (λ h. omega arith)
 
 pub judge-small : (s k n t : List ℕ) → SmallJudged (judgeAnswer s k n t)
