@@ -2,6 +2,9 @@
 //! Each row is first checked: both sides must give the same answer. Then they run in turns, and the least time of each counts,
 //! since the machine is shared. Prints a Markdown table; a ratio above 1 means that ours is faster.
 
+#[path = "bench_logs.rs"]
+mod logs;
+
 use oracle::pack::Pack;
 use oracle::reader;
 use oracle::scans;
@@ -24,6 +27,29 @@ mod ours {
                 n: usize,
             ) -> u64;
             pub fn lulzhemor_cut_body(out: *mut u64, m: usize, s: *const u8, n: usize) -> u64;
+            pub fn lulzhemor_judge(
+                kinds: *mut u8,
+                k: usize,
+                numbers: *mut u64,
+                m: usize,
+                texts: *mut u8,
+                l: usize,
+                log: *const u8,
+                n: usize,
+            ) -> u64;
+            pub fn lulzhemor_list_line(
+                kinds: *mut u8,
+                k: usize,
+                numbers: *mut u64,
+                m: usize,
+                texts: *mut u8,
+                l: usize,
+                out: *mut u8,
+                j: usize,
+                line: *const u8,
+                n: usize,
+                number: u64,
+            ) -> u64;
             pub fn bench_split_top_level(s: *const u8, n: usize) -> usize;
             pub fn bench_link(links: *mut u16, m: usize, s: *const u8, n: usize);
             pub fn bench_next_cut(
@@ -72,6 +98,39 @@ mod ours {
 
     pub fn cut_body(out: &mut [u64], s: &[u8]) -> u64 {
         unsafe { c::lulzhemor_cut_body(out.as_mut_ptr(), out.len(), s.as_ptr(), s.len()) }
+    }
+
+    pub fn judge(tables: &mut super::Tables, log: &[u8]) -> u64 {
+        unsafe {
+            c::lulzhemor_judge(
+                tables.kinds.as_mut_ptr(),
+                tables.kinds.len(),
+                tables.numbers.as_mut_ptr(),
+                tables.numbers.len(),
+                tables.texts.as_mut_ptr(),
+                tables.texts.len(),
+                log.as_ptr(),
+                log.len(),
+            )
+        }
+    }
+
+    pub fn list_line(tables: &mut super::Tables, out: &mut [u8], line: &[u8], number: u64) -> u64 {
+        unsafe {
+            c::lulzhemor_list_line(
+                tables.kinds.as_mut_ptr(),
+                tables.kinds.len(),
+                tables.numbers.as_mut_ptr(),
+                tables.numbers.len(),
+                tables.texts.as_mut_ptr(),
+                tables.texts.len(),
+                out.as_mut_ptr(),
+                out.len(),
+                line.as_ptr(),
+                line.len(),
+                number,
+            )
+        }
     }
 
     pub fn split_top_level(s: &[u8]) -> usize {
@@ -579,6 +638,15 @@ fn value_rows() {
 }
 
 fn main() {
+    let words: Vec<String> = std::env::args().skip(1).collect();
+    match words.iter().map(String::as_str).collect::<Vec<_>>()[..] {
+        ["kinds"] => logs::names(),
+        ["once", kind, side] => logs::once(kind, side),
+        _ => tables(words.first().map_or("", String::as_str)),
+    }
+}
+
+fn tables(word: &str) {
     println!("| what | input | Rust ns | ours ns | ratio |");
     println!("|---|---|---:|---:|---:|");
     utf8_rows();
@@ -587,4 +655,5 @@ fn main() {
     cut_rows();
     level_rows();
     value_rows();
+    logs::rows(word);
 }

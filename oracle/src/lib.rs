@@ -21,3 +21,6 @@ pub mod value;
 
 /// The Rust's private scans, for the vectors.
 pub use plain::open as scans;
+
+/// The Rust's reader of a whole log, for the benchmark.
+pub use plain::parse_trace;

@@ -17,13 +17,13 @@ use Rattle.cuts.specs.Split.{onto}
 use Rattle.heads.specs.Outcome.{Outcome, ok, refused}
 use Rattle.events.specs.Event.{Event}
 use Rattle.events.specs.Line.{parseLine}
-use Rattle.events.specs.Answer.{Answer, eventOf, lineAnswer, readLine}
+use Rattle.events.specs.Answer.{Answer, event, blank, eventOf, lineAnswer, readLine}
 use Rattle.events.proofs.Bounds.{line-small}
 use Rattle.lines.specs.Entry.{enough, answerOf}
 use Rattle.lines.specs.declared.LineRead.{LineRead}
 use Rattle.lines.specs.declared.LineRead.the-variants as reading
 use Rattle.logs.specs.Lines.{linesOf, marked, unmarked, Walked, behind, stopped, onward, walkFrom}
-use Rattle.logs.specs.Judge.{countLine, judgedBy, judgeLog}
+use Rattle.logs.specs.Judge.{counted, countLine, judgedBy, judgeLog}
 use Rattle.logs.specs.declared.Judged.{Judged}
 use Rattle.logs.specs.declared.Judged.the-variants as judging
 use Rattle.exports.specs.Answer.{refusal, ofRead, readAnswer, ofJudged, judgeAnswer}
@@ -59,24 +59,28 @@ read-line-small s =
 pub read-small : (s k n t : List ℕ) → SmallRead (readAnswer s k n t)
 read-small s k n t = both-arms SmallRead (enough k n t) (read-line-small s) tt
 
--- ---- a refusal's line
+-- ---- a log's count, and a refusal's line
 
 abbrev pub SmallJudged : Judged → Type 0
-SmallJudged (judging.Accepted n) = Unit {0}
+SmallJudged (judging.Accepted n) = n ≤ 65536
 SmallJudged (judging.Refused n line) = line ≤ 65537
 
-abbrev Before : ℕ → Walked ℕ → Type 0
-Before m (behind n) = Unit {0}
-Before m (stopped e line) = line ≤ m
+abbrev Within : ℕ → ℕ → Walked ℕ → Type 0
+Within count m (behind n) = n ≤ count
+Within count m (stopped e line) = line ≤ m
 
-onward-before : (m n : ℕ) (o : Outcome ℕ) (next : ℕ → Walked ℕ) → n ≤ m → ((b : ℕ) → Before m (next b)) → Before m (onward n o next)
-onward-before m n (ok b) next h i = i b
-onward-before m n (refused e) next h i = h
+module _ (count m : ℕ) where
+  onward-within : (n a : ℕ) (r : Answer) (next : ℕ → Walked ℕ) → n ≤ m → ((b : ℕ) → b ≤ suc a → Within count m (next b)) → Within count m (onward n (counted a r) next)
+  onward-within n a (event e) next h i = i (suc a) (omega arith)
+  onward-within n a blank next h i = i a (omega arith)
+  onward-within n a (Answer.refused e) next h i = h
 
-walk-before : (m n a : ℕ) (l : List (List ℕ)) → n + length l ≤ m → Before m (walkFrom countLine n a l)
-unfolding walkFrom
-walk-before m n a [] h = tt
-walk-before m n a (x ∷ xs) h = onward-before m n (countLine a x) (λ b. walkFrom countLine (suc n) b xs) (omega arith) (λ b. walk-before m (suc n) b xs (omega arith))
+  -- a line counts once at most
+  walk-within : (n a : ℕ) (l : List (List ℕ)) → n + length l ≤ m → a + length l ≤ count → Within count m (walkFrom countLine n a l)
+  unfolding walkFrom
+  walk-within n a [] h i = omega (arith, i)
+  walk-within n a (x ∷ xs) h i =
+      onward-within n a (lineAnswer x) (λ b. walkFrom countLine (suc n) b xs) (omega arith) (λ b j. walk-within (suc n) b xs (omega arith) (omega (arith, i, j)))
 
 onto-few : (a : ℕ) (l : List (List ℕ)) → length (onto a l) ≤ length l + 1
 unfolding onto
@@ -95,8 +99,8 @@ unmarked-few : (s : List ℕ) → length (unmarked s) ≤ length s
 unfolding unmarked
 unmarked-few s = both-arms (λ (t : List ℕ). length t ≤ length s) (marked s) (omega (arith, length-drop 3 s)) (omega arith)
 
-walked-small : (w : Walked ℕ) → Before 65537 w → SmallJudged (judgedBy w)
-walked-small (behind n) h = tt
+walked-small : (w : Walked ℕ) → Within 65536 65537 w → SmallJudged (judgedBy w)
+walked-small (behind n) h = h
 walked-small (stopped e line) h = h
 
 judge-log-small : (s : List ℕ) → SmallJudged (judgeLog s)
@@ -105,8 +109,9 @@ judge-log-small s =
     by-cond SmallJudged (leb (length s) textLimit) _ _
     (λ h.
     let l : length s ≤ textLimit = leb-true (length s) textLimit h in
+    let few : length (linesOf (unmarked s)) ≤ 65536 = omega (arith, l, lines-few (unmarked s), unmarked-few s) in
     both-arms SmallJudged (utf8 s)
-    (walked-small (walkFrom countLine 1 0 (linesOf (unmarked s))) (walk-before 65537 1 0 (linesOf (unmarked s)) (omega (arith, l, lines-few (unmarked s), unmarked-few s))))
+    (walked-small (walkFrom countLine 1 0 (linesOf (unmarked s))) (walk-within 65536 65537 1 0 (linesOf (unmarked s)) (omega (arith, few)) (omega (arith, few))))
     (omega arith))
     (λ h. omega arith)
 
@@ -124,6 +129,9 @@ sizes-apart f g a b h = (omega (arith, a .0, b .0, h), omega (arith, a .0, b .0,
 pub refusal-apart : (n line m other : ℕ) → n < 256 → m < 256 → ofJudged (judging.Refused n line) ≡ ofJudged (judging.Refused m other) → (n ≡ m) × (line ≡ other)
 refusal-apart n line m other a b h = (omega (arith, a, b, h), omega (arith, a, b, h))
 
--- no pack is as large as a refusal
+-- no pack and no count is as large as a refusal
 pub pack-below : (f : Front) → SmallRead (reading.Event f) → ofRead (reading.Event f) < refusal 0
 pack-below f a = omega (arith, a .0, a .1)
+
+pub count-below : (n : ℕ) → SmallJudged (judging.Accepted n) → ofJudged (judging.Accepted n) < refusal 0
+count-below n a = omega (arith, a)
