@@ -1,6 +1,6 @@
 -- The White_Space character that a text ends in is found by its last one, two or three bytes.
 -- Assumes nothing.
-use mathlib.Core.Path.{_≡_, refl, sym, ap, _∙_}
+use mathlib.Core.Path.{_≡_, refl, sym, ap, subst, _∙_}
 use mathlib.Core.Bool.{Bool, true, false, cond, _&&_, _||_}
 use mathlib.Core.List.{List, [], _∷_, _++_}
 use Prim.Native.Nat.{ℕ, zero, suc, _+_, _-_, _/_, _%_, _≤_, _<_}
@@ -18,6 +18,7 @@ use Rattle.chars.specs.declared.Step.{Step}
 use Rattle.chars.specs.declared.Step.the-variants.{Char, Bad}
 use Rattle.chars.proofs.Reading.{low-128, read, whole, ascii-char}
 use Rattle.chars.proofs.Encoding.{decode-encode}
+use Rattle.chars.proofs.Trimming.{white-inside}
 
 -- ---- no White_Space character takes four bytes
 
@@ -80,6 +81,20 @@ white-few s = go (charAt s) refl
 pub white-ascii : (a : ℕ) (r : List ℕ) → a < 0x80 → whiteAt (a ∷ r) ≡ cond (white a) 1 0
 unfolding whiteAt
 white-ascii a r h = ap widthOf (ascii-char a r h)
+
+-- a width that is right is inside
+pub right : (s : List ℕ) (r : ℕ) → r ≡ whiteAt s → (r ≡ whiteAt s) × (r ≤ length s)
+right s r e = (e, subst (λ (n : ℕ). n ≤ length s) (sym e) (white-inside s))
+
+-- a text of nothing begins with none
+pub white-none : (s : List ℕ) → length s ≡ 0 → whiteAt s ≡ 0
+unfolding whiteAt charAt
+white-none [] h = refl
+white-none (a ∷ r) h = absurd (omega arith)
+
+pub white-first : (s : List ℕ) → 0 < length s → getD s 0 0 < 0x80 → whiteAt s ≡ cond (white (getD s 0 0)) 1 0
+white-first [] h i = absurd (omega arith)
+white-first (a ∷ r) h i = white-ascii a r i
 
 -- a byte past ASCII is no character by itself
 alone-bad : (b : ℕ) → 0x80 ≤ b → charAt (b ∷ []) ≡ Bad

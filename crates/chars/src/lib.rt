@@ -1,7 +1,7 @@
 // Characters: UTF-8, White_Space, and a text trimmed at both ends.
 // Every function answers on every input; bytes that are no character are `Bad`, and are never White_Space.
 ghost use mathlib.Core.Path.{_≡_};
-ghost use Prim.Native.Nat.{ℕ, _+_, _≤_, _<_};
+ghost use Prim.Native.Nat.{ℕ, _+_, _-_, _≤_, _<_};
 ghost use lib.ListN.{length, getD, drop};
 ghost use Rattle.chars.specs.Utf8.{low as lowOf, high as highOf, charOf, charAt, utf8};
 ghost use Rattle.chars.specs.White.{within, white, wideWhite, whiteAt, trimStart, trimEnd, trim as trimmed, blank};
@@ -285,8 +285,26 @@ fn is_wide_white(c: u32) -> bool
     c == 0x3000
 }
 
-// How many bytes the White_Space character takes that the text begins with; 0 where it begins with none.
+// How many bytes the White_Space character takes that the text begins with; 0 where it begins with none. ASCII is decided in place.
 pub fn white_width(s: &[u8]) -> usize
+    ensures { λ r. ⌜ r ≡ whiteAt (now (s .entry)) ⌝ }
+    ensures { λ r. ⌜ r ≤ length (now (s .entry)) ⌝ }
+{
+    if s.len() == 0 {
+        return 0;
+    }
+    let first = s[0];
+    if first < 0x80 {
+        if is_white(first as u32) {
+            return 1;
+        }
+        return 0;
+    }
+    wide_width(s)
+}
+
+// The same, by decoding the character.
+fn wide_width(s: &[u8]) -> usize
     ensures { λ r. ⌜ r ≡ whiteAt (now (s .entry)) ⌝ }
     ensures { λ r. ⌜ r ≤ length (now (s .entry)) ⌝ }
 {
@@ -316,6 +334,15 @@ fn white_end(s: &[u8]) -> usize
         }
         return 0;
     }
+    wide_end(s)
+}
+
+// The same of a text whose last byte is not ASCII.
+fn wide_end(s: &[u8]) -> usize
+    requires { ⌜ (1 ≤ length (now s)) × (128 ≤ getD (now s) (length (now s) - 1) 0) ⌝ }
+    ensures { λ r. ⌜ EndsIn (now (s .entry)) r ⌝ }
+{
+    let n = s.len();
     if n < 2 {
         return 0;
     }

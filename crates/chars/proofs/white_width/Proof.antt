@@ -1,67 +1,46 @@
--- `chars::white_width` meets its contract: the character at the start decides.
+-- `chars::white_width` meets its contract: ASCII is decided by its byte.
 -- Assumes nothing.
-use mathlib.Core.Path.{_≡_, refl, sym, ap, subst, _∙_}
-use mathlib.Core.Bool.{true, false, cond}
-use mathlib.Core.List.{List}
-use Prim.Native.Nat.{ℕ, _≤_}
-use borrow.Author.Needs.{needs}
+use mathlib.Core.Path.{refl, sym, _∙_}
 use denote.Ref.{now}
-use lib.ListN.{length}
-use Rattle.chars.specs.Utf8.{charAt}
-use Rattle.chars.specs.White.{white, widthOf, whiteAt}
-use Rattle.chars.specs.declared.Step.the-variants.{Char, Bad}
-use Rattle.chars.proofs.Trimming.{white-inside}
+use native.Mathlib.Omega.{arith}
+use Rattle.chars.proofs.Ending.{right, white-none, white-first}
+use borrow.Author.Needs.{needs}
 use Rattle.chars.proofs.white_width.Statement.{statement}
 use Rattle.chars.proofs.white_width.Tie as tie
 
--- a width that is right is inside
-pub right : (s : List ℕ) (r : ℕ) → r ≡ whiteAt s → (r ≡ whiteAt s) × (r ≤ length s)
-right s r e = (e, subst (λ (n : ℕ). n ≤ length s) (sym e) (white-inside s))
+returns : tie.Need-returns
+returns c = right (now (c .before .before .args .s)) 0 (sym (white-none (now (c .before .before .args .s)) (c .if1 .taken)))
 
-found : (s : List ℕ) (c n r : ℕ) → charAt s ≡ Char c n → cond (white c) n 0 ≡ r → r ≡ whiteAt s
-unfolding whiteAt
-found s c n r e w = sym w ∙ sym (ap widthOf e)
+shared-slice-read-first : tie.Need-shared-slice-read-first
+shared-slice-read-first c = search needs
 
-decode-char-requires : tie.Need-decode-char-requires
-decode-char-requires c κs = search needs
-
-enum-known-c : tie.Need-enum-known-c
-enum-known-c c = search needs
+cast-is-white : tie.Need-cast-is-white
+cast-is-white c = search needs
 
 is-white-requires : tie.Need-is-white-requires
 is-white-requires c κs = search needs
 
-returns : tie.Need-returns
-returns c =
-    let s = now (c .before .before .before .before .before .before .before .args .s) in
-    let g = c .before .before .before .c .given in
-    right s _ (found s (g .0 .0) (g .0 .1 .0) _ (sym (c .before .before .before .before .before .decode-char .ensures) ∙ g .1)
-    (rw (sym (c .before .is-white .ensures) ∙ c .if1 .taken) refl))
-
-enum-told : tie.Need-enum-told
-enum-told c = search needs
-
 returns-2 : tie.Need-returns-2
-returns-2 c =
-    let s = now (c .before .before .before .before .before .before .before .args .s) in
-    let g = c .before .before .before .c .given in
-    right s 0 (found s (g .0 .0) (g .0 .1 .0) 0 (sym (c .before .before .before .before .before .decode-char .ensures) ∙ g .1)
-    (rw (sym (c .before .is-white .ensures) ∙ c .if1 .left) refl))
+returns-2 c = right (now (c .before .before .before .before .before .before .args .s)) 1 (sym (white-first (now (c .before .before .before .before .before .before .args .s)) (omega (arith, c .before .before .before .before .if1 .left)) (c .before .before .if2 .taken) ∙ rw (sym (c .before .is-white .ensures) ∙ c .if3 .taken) refl))
 
 returns-3 : tie.Need-returns-3
-unfolding whiteAt
-returns-3 c =
-    let s = now (c .before .before .before .before .args .s) in
-    right s 0 (sym (ap widthOf (sym (c .before .before .decode-char .ensures) ∙ c .enum-told .given .1)))
+returns-3 c = right (now (c .before .before .before .before .before .before .args .s)) 0 (sym (white-first (now (c .before .before .before .before .before .before .args .s)) (omega (arith, c .before .before .before .before .if1 .left)) (c .before .before .if2 .taken) ∙ rw (sym (c .before .is-white .ensures) ∙ c .if3 .left) refl))
+
+wide-width-requires : tie.Need-wide-width-requires
+wide-width-requires c κs = search needs
+
+returns-4 : tie.Need-returns-4
+returns-4 c = c .wide-width .ensures
 
 pub white-width-spec : {M : Type 1} → statement M
 white-width-spec =
     tie.close
     (tie.spec
-    decode-char-requires
-    enum-known-c
-    is-white-requires
     returns
-    enum-told
+    shared-slice-read-first
+    cast-is-white
+    is-white-requires
     returns-2
-    returns-3)
+    returns-3
+    wide-width-requires
+    returns-4)
