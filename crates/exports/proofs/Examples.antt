@@ -3,7 +3,9 @@
 use mathlib.Core.Path.{_≡_, refl}
 use Rattle.cuts.specs.declared.Cut.the-variants as cut
 use Rattle.keys.specs.declared.Spelled.the-variants as spelling
-use Rattle.exports.specs.Answer.{ofCut, ofSpelled}
+use Rattle.lines.specs.declared.LineRead.the-variants as reading
+use Rattle.logs.specs.declared.Judged.the-variants as judging
+use Rattle.exports.specs.Answer.{ofCut, ofSpelled, ofRead, ofJudged}
 
 -- two commas cut
 two-places : ofCut (cut.Places 2) ≡ 2
@@ -12,3 +14,11 @@ two-places = refl
 -- refusal 5: the output is too short
 output-too-short : ofSpelled (spelling.Refused 5) ≡ 4294967301
 output-too-short = refl
+
+-- a pack of 13 nodes and 5 text bytes
+pack-sizes : ofRead (reading.Event (record { nodes = 13; texts = 5 })) ≡ 327693
+pack-sizes = refl
+
+-- refusal 18 at line 3
+refused-at-line : ofJudged (judging.Refused 18 3) ≡ 4294968082
+refused-at-line = refl

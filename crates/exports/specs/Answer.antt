@@ -1,13 +1,23 @@
--- How an answer that is an enum passes to C: as one number. Refusal n of document 01 is 2^32 + n; a success is the count of what
--- was written, which is less.
+-- How an answer that is an enum passes to C: as one number. Refusal n of document 01 is 2^32 + n, and in a judged log 256 times its line
+-- more; a success is less: the count of what was written, of events, or a pack's two sizes. A blank line is 0.
 -- Assumes nothing.
-use Prim.Native.Nat.{ℕ, _+_}
+use mathlib.Core.Bool.{cond}
+use mathlib.Core.List.{List}
+use Prim.Native.Nat.{ℕ, _+_, _*_}
+use Rattle.format.specs.Refusals.{tableTooShort}
 use Rattle.cuts.specs.declared.Cut.{Cut}
 use Rattle.cuts.specs.declared.Cut.the-variants as cut
 use Rattle.escapes.specs.declared.Decoded.{Decoded}
 use Rattle.escapes.specs.declared.Decoded.the-variants as decoding
 use Rattle.keys.specs.declared.Spelled.{Spelled}
 use Rattle.keys.specs.declared.Spelled.the-variants as spelling
+use Rattle.events.specs.Answer.{readLine}
+use Rattle.lines.specs.Entry.{enough, answerOf}
+use Rattle.lines.specs.declared.LineRead.{LineRead}
+use Rattle.lines.specs.declared.LineRead.the-variants as reading
+use Rattle.logs.specs.Judge.{judgeLog}
+use Rattle.logs.specs.declared.Judged.{Judged}
+use Rattle.logs.specs.declared.Judged.the-variants as judging
 
 abbrev pub refusal : ℕ → ℕ
 refusal n = 4294967296 + n
@@ -23,3 +33,21 @@ ofDecoded (decoding.Refused n) = refusal n
 abbrev pub ofSpelled : Spelled → ℕ
 ofSpelled (spelling.Written n) = n
 ofSpelled (spelling.Refused n) = refusal n
+
+-- an event has one node at least, so no event is 0
+abbrev pub ofRead : LineRead → ℕ
+ofRead (reading.Event f) = f .nodes + 65536 * f .texts
+ofRead reading.Blank = 0
+ofRead (reading.Refused n) = refusal n
+
+abbrev pub ofJudged : Judged → ℕ
+ofJudged (judging.Accepted n) = n
+ofJudged (judging.Refused n line) = refusal n + 256 * line
+
+-- ---- the answers themselves, with tables k, n and t
+
+abbrev pub readAnswer : List ℕ → List ℕ → List ℕ → List ℕ → LineRead
+readAnswer s k n t = cond (enough k n t) (answerOf (readLine s)) (reading.Refused tableTooShort)
+
+abbrev pub judgeAnswer : List ℕ → List ℕ → List ℕ → List ℕ → Judged
+judgeAnswer s k n t = cond (enough k n t) (judgeLog s) (judging.Refused tableTooShort 0)

@@ -7,10 +7,14 @@ ghost use Rattle.chars.specs.Utf8.{utf8};
 ghost use Rattle.cuts.specs.Body.{cutBody, cutOutput};
 ghost use Rattle.escapes.specs.Entry.{decoded, outputAfter};
 ghost use Rattle.keys.specs.Entry.{spellKey, spellOutput};
-ghost use Rattle.exports.specs.Answer.{ofCut, ofDecoded, ofSpelled};
+ghost use Rattle.lines.specs.Entry as Lines;
+ghost use Rattle.logs.specs.Judge as Logs;
+ghost use Rattle.exports.specs.Answer.{ofCut, ofDecoded, ofSpelled, ofRead, readAnswer, ofJudged, judgeAnswer};
 use cuts::Cut;
 use escapes::Decoded;
 use keys::Spelled;
+use lines::LineRead;
+use logs::Judged;
 
 // Refusal n of document 01 is this number and n: no success is as large.
 const REFUSED: u64 = 4_294_967_296;
@@ -56,5 +60,44 @@ pub extern "C" fn lulzhemor_spell_key(out: &mut [u8], ty: &[u8], id: &[u8]) -> u
     match keys::spell_key(out, ty, id) {
         Spelled::Written(count) => count as u64,
         Spelled::Refused(number) => REFUSED + (number as u64),
+    }
+}
+
+// Reads one line into a pack: its nodes, and 65,536 times its text bytes; 0 where the line is blank; or a refusal.
+#[no_mangle]
+pub extern "C" fn lulzhemor_read_line(
+    kinds: &mut [u8],
+    numbers: &mut [u64],
+    texts: &mut [u8],
+    line: &[u8],
+) -> u64
+    ensures { λ r. ⌜ r ≡ ofRead (readAnswer (now (line .entry)) (now (kinds .entry)) (now (numbers .entry)) (now (texts .entry))) ⌝ }
+    ensures { λ _. ⌜ Lines.Whole (now (line .entry)) (now (kinds .entry)) (now (numbers .entry)) (now (texts .entry))
+        (readAnswer (now (line .entry)) (now (kinds .entry)) (now (numbers .entry)) (now (texts .entry)))
+        (now (kinds .exit)) (now (numbers .exit)) (now (texts .exit)) ⌝ }
+{
+    match lines::read_line(kinds, numbers, texts, line) {
+        LineRead::Event(front) => (front.nodes as u64) + 65_536 * (front.texts as u64),
+        LineRead::Blank => 0,
+        LineRead::Refused(number) => REFUSED + (number as u64),
+    }
+}
+
+// Judges a log: how many events it has; or a refusal, and 256 times the line where it was met.
+#[no_mangle]
+pub extern "C" fn lulzhemor_judge(
+    kinds: &mut [u8],
+    numbers: &mut [u64],
+    texts: &mut [u8],
+    log: &[u8],
+) -> u64
+    ensures { λ r. ⌜ r ≡ ofJudged (judgeAnswer (now (log .entry)) (now (kinds .entry)) (now (numbers .entry)) (now (texts .entry))) ⌝ }
+    ensures { λ _. ⌜ Logs.Whole (now (log .entry)) (now (kinds .entry)) (now (numbers .entry)) (now (texts .entry))
+        (judgeAnswer (now (log .entry)) (now (kinds .entry)) (now (numbers .entry)) (now (texts .entry)))
+        (now (kinds .exit)) (now (numbers .exit)) (now (texts .exit)) ⌝ }
+{
+    match logs::judge(kinds, numbers, texts, log) {
+        Judged::Accepted(count) => count as u64,
+        Judged::Refused(number, line) => REFUSED + (number as u64) + 256 * (line as u64),
     }
 }

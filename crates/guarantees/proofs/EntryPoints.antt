@@ -1,5 +1,5 @@
 -- Each entry point's contract as one statement, written out here over the definitions, and proved by the function's own theorem, which
--- `rt` made from the contract in `src/` and checked. *List one line's event* is not built yet.
+-- `rt` made from the contract in `src/` and checked.
 -- Assumes nothing.
 use mathlib.Core.Path.{_≡_}
 use lib.ListN.{length}
@@ -24,6 +24,10 @@ use Rattle.logs.specs.Judge as Judge
 use Rattle.logs.proofs.judge
 use Rattle.logs.proofs.judge.Met as JudgeLog
 use Rattle.logs.proofs.judge.Symbol as JudgeCode
+use Rattle.listing.specs.Entry as Listing
+use Rattle.listing.proofs.list_line
+use Rattle.listing.proofs.list_line.Met as ListLine
+use Rattle.listing.proofs.list_line.Symbol as ListLineCode
 use Rattle.guarantees.specs.Promised.{Promised, PromisedBoth}
 
 -- 1. Decode escapes: `decode(out, text)`. The answer is what `decoded` says of the text and the output's length; the whole output is then
@@ -53,3 +57,10 @@ read-line-promised = ReadLine.met
 pub judge-promised : {M : Type 1} → Promised judge.ended JudgeCode.routine M (λ κs a r s.
     Judge.Whole (now (a .1 .1 .1 .0)) (now (a .0)) (now (a .1 .0)) (now (a .1 .1 .0)) r (now (s .0)) (now (s .1 .0)) (now (s .1 .1 .0)))
 judge-promised = JudgeLog.met
+
+-- 6. List one line's event: `list_line(kinds, numbers, texts, out, line, number)`. The same, with the `Whole` of listing, which gives every
+-- byte of the output too.
+pub list-line-promised : {M : Type 1} → Promised list_line.ended ListLineCode.routine M (λ κs a r s.
+    Listing.Whole (now (a .1 .1 .1 .1 .0)) (a .1 .1 .1 .1 .1 .0) (now (a .0)) (now (a .1 .0)) (now (a .1 .1 .0)) (now (a .1 .1 .1 .0)) r
+    (now (s .0)) (now (s .1 .0)) (now (s .1 .1 .0)) (now (s .1 .1 .1 .0)))
+list-line-promised = ListLine.met

@@ -7,6 +7,7 @@ mod cuts_cases;
 mod escapes_cases;
 mod input;
 mod lines_cases;
+mod listings_cases;
 mod little;
 mod logs_cases;
 mod numbers_cases;
@@ -38,6 +39,7 @@ fn agrees(group: usize, op: usize, input: &[u8], answer: &[u8]) -> bool {
         5 => values_cases::agrees(op, input, answer),
         6 => tables::agrees(group, op, input, answer),
         7 => tables::agrees(group, op, input, answer),
+        8 => tables::agrees(group, op, input, answer),
         _ => false,
     }
 }

@@ -54,7 +54,7 @@ pub fn same_pack(
 }
 
 // Is every byte from one place up to another this one?
-fn all_bytes(s: &[u8], from: usize, to: usize, b: u8) -> bool {
+pub fn all_bytes(s: &[u8], from: usize, to: usize, b: u8) -> bool {
     if to > s.len() {
         return false;
     }

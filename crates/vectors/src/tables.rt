@@ -1,5 +1,6 @@
-// The pack tables that a line's or a log's case is tried with, every entry 77. The op says how long they are.
+// The pack tables that a case of a line, a log or a listing is tried with, every entry 77. The op says how long they are.
 use crate::lines_cases;
+use crate::listings_cases;
 use crate::logs_cases;
 
 fn agrees_with(
@@ -13,6 +14,7 @@ fn agrees_with(
     match group {
         6 => lines_cases::agrees(kinds, numbers, texts, input, answer),
         7 => logs_cases::agrees(kinds, numbers, texts, input, answer),
+        8 => listings_cases::agrees(kinds, numbers, texts, input, answer),
         _ => false,
     }
 }
