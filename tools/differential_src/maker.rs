@@ -10,6 +10,8 @@ pub struct Maker {
     pub random: Random,
     /// How often whitespace stands where it may: once in so many places.
     spaces: usize,
+    /// No word that upsets the reading of what follows: most lines are then read.
+    tame: bool,
 }
 
 /// Both ends of every range that `escape_debug` writes as numbers, and their neighbours.
@@ -34,7 +36,8 @@ impl Maker {
     pub fn new(seed: u64, index: u64) -> Maker {
         let mut random = Random::new(mixed(seed, index));
         let spaces = *random.pick(&[2, 4, 8, 20]);
-        Maker { random, spaces }
+        let tame = !random.once_in(3);
+        Maker { random, spaces, tame }
     }
 
     pub fn log(&mut self) -> Vec<u8> {
@@ -42,12 +45,14 @@ impl Maker {
             0..=1 => self.log_at_limit(),
             2..=13 => self.line_at_limit(),
             14..=29 => self.deep().into_bytes(),
-            30..=59 => self.soup().into_bytes(),
+            30..=49 => self.soup().into_bytes(),
             60..=64 => self.many_fields().into_bytes(),
+            65..=68 => self.characters().into_bytes(),
             _ => self.lines().into_bytes(),
         };
         let mut log = self.marked(log);
-        if self.random.once_in(4) {
+        let damaged = if self.tame { 8 } else { 3 };
+        if self.random.once_in(damaged) {
             for _ in 0..1 + self.random.below(3) {
                 self.damage_bytes(&mut log);
             }
@@ -82,14 +87,16 @@ impl Maker {
             }
             log += &line;
             if index + 1 < count || self.random.once_in(2) {
-                log += *self.random.pick(&LINE_ENDS);
+                let ends = if self.tame && !self.random.once_in(8) { &LINE_ENDS[..9] } else { &LINE_ENDS };
+                log += *self.random.pick(ends);
             }
         }
         log
     }
 
     fn any_line(&mut self) -> String {
-        match self.random.below(20) {
+        let kinds = if self.tame { 50 } else { 20 };
+        match self.random.below(kinds) {
             0..=1 => self.vector_line(),
             2..=5 => self.faults(),
             6 => self.space() + &self.space() + &self.space(),
@@ -135,11 +142,13 @@ impl Maker {
         if !self.random.once_in(self.spaces) {
             return String::new();
         }
+        // A line feed stands here only where the line may fall apart.
+        let spaces = if self.tame { &WHITE_SPACE[1..] } else { &WHITE_SPACE };
         match self.random.below(12) {
             0..=4 => " ".to_string(),
-            5 => self.random.pick(&NO_SPACE).to_string(),
-            6 => format!("{}{}", self.random.pick(&WHITE_SPACE), self.random.pick(&WHITE_SPACE)),
-            _ => self.random.pick(&WHITE_SPACE).to_string(),
+            5 if self.random.once_in(if self.tame { 20 } else { 2 }) => self.random.pick(&NO_SPACE).to_string(),
+            6 => format!("{}{}", self.random.pick(spaces), self.random.pick(spaces)),
+            _ => self.random.pick(spaces).to_string(),
         }
     }
 
@@ -149,8 +158,26 @@ impl Maker {
 
     /// One of a list, or rarely something that belongs nowhere.
     fn word(&mut self, from: &[&'static str]) -> String {
+        if self.tame {
+            return self.calm(from);
+        }
         let list: &[&'static str] = if self.random.once_in(80) { &UPSETTING } else { from };
         self.random.pick(list).to_string()
+    }
+
+    /// One of a list whose quotes and brackets are paired.
+    fn calm(&mut self, from: &[&'static str]) -> String {
+        let calm = |word: &str| {
+            let count = |c: char| word.matches(c).count();
+            let quotes = count('"') % 2 == 0 && !word.contains("\\\"");
+            quotes && [('(', ')'), ('[', ']'), ('{', '}')].iter().all(|(open, close)| count(*open) == count(*close))
+        };
+        loop {
+            let word = *self.random.pick(from);
+            if calm(word) {
+                return word.to_string();
+            }
+        }
     }
 
     fn char(&mut self) -> char {
@@ -229,6 +256,7 @@ impl Maker {
             2 | 3 => self.entity(),
             4..=6 => self.number(),
             7 | 8 => self.word(&WORDS),
+            _ if self.tame => self.random.pick(&["x", "é b", "\\n", "a.b", "'"]).to_string(),
             _ => self.inside(),
         }
     }
@@ -260,11 +288,15 @@ impl Maker {
         let start = self.random.below(NAMES.len());
         let mut fields = Vec::new();
         for index in 0..count {
-            let ordered = NAMES[(start + 5 * index) % NAMES.len()].to_string();
-            let name = match self.random.below(25) {
+            let ordered = match self.tame {
+                true => CALM_NAMES[(start + index) % CALM_NAMES.len()].to_string(),
+                false => NAMES[(start + 5 * index) % NAMES.len()].to_string(),
+            };
+            let rare = if self.tame { 100 } else { 25 };
+            let name = match self.random.below(rare) {
                 0 => self.word(&NAMES),
                 1 => self.quoted(),
-                2 => self.inside(),
+                2 if !self.tame => self.inside(),
                 _ => ordered,
             };
             let value = self.value(levels);
@@ -295,8 +327,8 @@ impl Maker {
     }
 
     fn scope(&mut self) -> String {
-        let names = ["principal", "resource", "action", " principal ", "principal", "resource\u{a0}"];
-        let count = self.random.below(4);
+        let names = ["principal", "resource", "action", " principal ", "resource\u{a0}", "x"];
+        let count = self.random.below(if self.tame { 3 } else { 5 });
         let start = self.random.below(names.len());
         let fields: Vec<String> = (0..count)
             .map(|index| {
@@ -337,8 +369,8 @@ impl Maker {
     }
 
     fn line(&mut self) -> String {
-        let time = if self.random.once_in(6) { *self.random.pick(&TIMES) } else { *self.random.pick(&TIMES[..16]) };
-        let gap = if self.random.once_in(3) { *self.random.pick(&WHITE_SPACE) } else { " " };
+        let time = if self.random.once_in(if self.tame { 30 } else { 6 }) { *self.random.pick(&TIMES) } else { *self.random.pick(&TIMES[..16]) };
+        let gap = if self.random.once_in(3) { *self.random.pick(&WHITE_SPACE[1..]) } else { " " };
         let gap = format!("{gap}{}", self.space());
         let (envelopes, head) = (self.envelopes(), self.head());
         let group = self.fields(3);
@@ -398,6 +430,30 @@ impl Maker {
             1 => format!("@0 request_context(v:[{{{}}}])::\"\"::k()", fields.join(",")),
             2 => format!("@0 entities({})::\"\"::k()", entries.join(",")),
             _ => format!("@0 entities(A::\"a\":{{{}}})::\"\"::k(b:1,a:2)", fields.join(",")),
+        }
+    }
+
+    /// Many short texts, each with a character at an end of a range in front, some with one more.
+    fn characters(&mut self) -> String {
+        let mut items = Vec::new();
+        for _ in 0..20 + self.random.below(60) {
+            let mut text = self.random.pick(range_ends()).to_string();
+            if self.random.once_in(3) {
+                text.push(*self.random.pick(range_ends()));
+            }
+            let ty = if self.random.once_in(3) { "T::" } else { "" };
+            items.push(format!("{ty}\"{text}\""));
+        }
+        match self.random.below(3) {
+            0 => items.into_iter().map(|item| format!("@0 {}::k()\n", item.replacen("T::\"", "\"", 1).replacen('"', "::\"", 1))).take(6).collect(),
+            1 => {
+                let entry = |item: String| format!("{}:{{}}", item.replacen("T::\"", "\"", 1).replacen('"', "::\"", 1));
+                let mut entries: Vec<String> = items.into_iter().map(entry).collect();
+                entries.sort();
+                entries.dedup();
+                format!("@0 entities({})::\"\"::k()", entries.join(","))
+            }
+            _ => format!("@0 ::\"\"::k(v:[{}])", items.join(",")),
         }
     }
 

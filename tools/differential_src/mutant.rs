@@ -9,6 +9,10 @@ macro_rules! mutants {
             SpaceLess(usize),
             /// A further character taken for whitespace.
             SpaceMore(char),
+            /// A character that `escape_debug` writes as a number, written as it is.
+            Plain(char),
+            /// A character that `escape_debug` writes as it is, written as a number.
+            Number(char),
             /// These two refusals swapped.
             Swapped(u8, u8),
             $($name,)*
@@ -260,6 +264,22 @@ mutants! {
 /// Characters that are no White_Space and look it.
 const LOOKALIKES: [char; 6] = ['\u{200b}', '\u{feff}', '\u{1c}', '\u{180e}', '\u{2060}', '\u{0}'];
 
+/// One table entry too short or too long, at both ends of the table and within.
+fn at_ranges(ranges: &[oracle::ranges::Range]) -> Vec<(Mutant, String)> {
+    let mut out = Vec::new();
+    for part in 0..=4 {
+        let (_, end) = ranges[(ranges.len() - 1) * part / 4];
+        if let Some(last) = char::from_u32(end - 1) {
+            out.push((Mutant::Plain(last), format!("U+{:04X} is not written as a number", end - 1)));
+        }
+        let plain = |c: &char| !format!("a{c}").escape_debug().to_string().ends_with('}');
+        if let Some(next) = char::from_u32(end).filter(plain) {
+            out.push((Mutant::Number(next), format!("U+{end:04X} is written as a number")));
+        }
+    }
+    out
+}
+
 /// Every mutant with what it does.
 pub fn all() -> Vec<(Mutant, String)> {
     let mut out: Vec<(Mutant, String)> =
@@ -270,6 +290,9 @@ pub fn all() -> Vec<(Mutant, String)> {
     }
     for more in LOOKALIKES {
         out.push((Mutant::SpaceMore(more), format!("U+{:04X} is White_Space", more as u32)));
+    }
+    for ranges in [oracle::ranges::anywhere(), oracle::ranges::first_only()] {
+        out.extend(at_ranges(&ranges));
     }
     for number in (1..5).chain([5]).chain(10..34) {
         let next = if number == 5 { 10 } else { number + 1 };
