@@ -5,7 +5,8 @@ use Rattle.cuts.specs.declared.Cut.the-variants as cut
 use Rattle.keys.specs.declared.Spelled.the-variants as spelling
 use Rattle.lines.specs.declared.LineRead.the-variants as reading
 use Rattle.logs.specs.declared.Judged.the-variants as judging
-use Rattle.exports.specs.Answer.{ofCut, ofSpelled, ofRead, ofJudged}
+use Rattle.listing.specs.declared.Listed.the-variants as listing
+use Rattle.exports.specs.Answer.{ofCut, ofSpelled, ofRead, ofJudged, ofListed}
 
 -- two commas cut
 two-places : ofCut (cut.Places 2) ≡ 2
@@ -22,3 +23,7 @@ pack-sizes = refl
 -- refusal 18 at line 3
 refused-at-line : ofJudged (judging.Refused 18 3) ≡ 4294968082
 refused-at-line = refl
+
+-- nothing is listed of a blank line
+blank-listed : ofListed listing.Blank ≡ 0
+blank-listed = refl

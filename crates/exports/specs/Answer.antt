@@ -4,6 +4,7 @@
 use mathlib.Core.Bool.{cond}
 use mathlib.Core.List.{List}
 use Prim.Native.Nat.{ℕ, _+_, _*_}
+use lib.ListN.{length}
 use Rattle.format.specs.Refusals.{tableTooShort}
 use Rattle.cuts.specs.declared.Cut.{Cut}
 use Rattle.cuts.specs.declared.Cut.the-variants as cut
@@ -18,6 +19,9 @@ use Rattle.lines.specs.declared.LineRead.the-variants as reading
 use Rattle.logs.specs.Judge.{judgeLog}
 use Rattle.logs.specs.declared.Judged.{Judged}
 use Rattle.logs.specs.declared.Judged.the-variants as judging
+use Rattle.listing.specs.Entry.{listAnswer}
+use Rattle.listing.specs.declared.Listed.{Listed}
+use Rattle.listing.specs.declared.Listed.the-variants as listing
 
 abbrev pub refusal : ℕ → ℕ
 refusal n = 4294967296 + n
@@ -44,6 +48,11 @@ abbrev pub ofJudged : Judged → ℕ
 ofJudged (judging.Accepted n) = n
 ofJudged (judging.Refused n line) = refusal n + 256 * line
 
+abbrev pub ofListed : Listed → ℕ
+ofListed (listing.Written n) = n
+ofListed listing.Blank = 0
+ofListed (listing.Refused n) = refusal n
+
 -- ---- the answers themselves, with tables k, n and t
 
 abbrev pub readAnswer : List ℕ → List ℕ → List ℕ → List ℕ → LineRead
@@ -51,3 +60,6 @@ readAnswer s k n t = cond (enough k n t) (answerOf (readLine s)) (reading.Refuse
 
 abbrev pub judgeAnswer : List ℕ → List ℕ → List ℕ → List ℕ → Judged
 judgeAnswer s k n t = cond (enough k n t) (judgeLog s) (judging.Refused tableTooShort 0)
+
+abbrev pub lineListed : List ℕ → ℕ → List ℕ → List ℕ → List ℕ → List ℕ → Listed
+lineListed s number k n t out = cond (enough k n t) (listAnswer number (length out) (readLine s)) (listing.Refused tableTooShort)

@@ -9,11 +9,13 @@ ghost use Rattle.escapes.specs.Entry.{decoded, outputAfter};
 ghost use Rattle.keys.specs.Entry.{spellKey, spellOutput};
 ghost use Rattle.lines.specs.Entry as Lines;
 ghost use Rattle.logs.specs.Judge as Logs;
-ghost use Rattle.exports.specs.Answer.{ofCut, ofDecoded, ofSpelled, ofRead, readAnswer, ofJudged, judgeAnswer};
+ghost use Rattle.listing.specs.Entry as Listing;
+ghost use Rattle.exports.specs.Answer.{ofCut, ofDecoded, ofSpelled, ofRead, readAnswer, ofJudged, judgeAnswer, ofListed, lineListed};
 use cuts::Cut;
 use escapes::Decoded;
 use keys::Spelled;
 use lines::LineRead;
+use listing::Listed;
 use logs::Judged;
 
 // Refusal n of document 01 is this number and n: no success is as large.
@@ -99,5 +101,28 @@ pub extern "C" fn lulzhemor_judge(
     match logs::judge(kinds, numbers, texts, log) {
         Judged::Accepted(count) => count as u64,
         Judged::Refused(number, line) => REFUSED + (number as u64) + 256 * (line as u64),
+    }
+}
+
+// Lists one line's event, its number handed in: how many bytes the listing has, which are the output's first; 0 where the line is blank;
+// or a refusal, the output unchanged.
+#[no_mangle]
+pub extern "C" fn lulzhemor_list_line(
+    kinds: &mut [u8],
+    numbers: &mut [u64],
+    texts: &mut [u8],
+    out: &mut [u8],
+    line: &[u8],
+    number: u64,
+) -> u64
+    ensures { λ r. ⌜ r ≡ ofListed (lineListed (now (line .entry)) number (now (kinds .entry)) (now (numbers .entry)) (now (texts .entry)) (now (out .entry))) ⌝ }
+    ensures { λ _. ⌜ Listing.Whole (now (line .entry)) number (now (kinds .entry)) (now (numbers .entry)) (now (texts .entry)) (now (out .entry))
+        (lineListed (now (line .entry)) number (now (kinds .entry)) (now (numbers .entry)) (now (texts .entry)) (now (out .entry)))
+        (now (kinds .exit)) (now (numbers .exit)) (now (texts .exit)) (now (out .exit)) ⌝ }
+{
+    match listing::list_line(kinds, numbers, texts, out, line, number) {
+        Listed::Written(count) => count as u64,
+        Listed::Blank => 0,
+        Listed::Refused(refusal) => REFUSED + (refusal as u64),
     }
 }
