@@ -3,7 +3,7 @@
 use crate::answer::{Ask, Lent, Question};
 use crate::random::Random;
 
-/// Of a log with more lines only these many are read one by one, spread over it.
+/// A line that repeats the one before it is read again only in a log of so few lines; in a longer one, so many of them.
 const LINES: usize = 24;
 /// How many texts are drawn from a log.
 const DRAWN: usize = 4;
@@ -37,8 +37,12 @@ pub fn about<'a>(random: &mut Random, log: &'a [u8]) -> Vec<Question<'a>> {
     }
     let lines: Vec<&[u8]> = log.split(|b| *b == b'\n').collect();
     let step = lines.len().div_ceil(LINES);
-    for (index, line) in lines.iter().enumerate().step_by(step) {
-        let number = *random.pick(&[index as u64 + 1, index as u64 + 1, 10, u64::MAX, 1 << 63, 0]);
+    for (index, line) in lines.iter().enumerate() {
+        if index % step != 0 && *line == lines[index - 1] {
+            continue;
+        }
+        let next = index as u64 + 1;
+        let number = *random.pick(&[next, next, next, 10, u64::MAX, 1 << 63, 0]);
         out.push(question(random, Ask::Read, line));
         out.push(question(random, Ask::List(number), line));
     }
