@@ -2,7 +2,7 @@
 
 mod product;
 
-use differential::answer::{ASKS, Ask, Question};
+use differential::answer::{ASKS, Answer, Ask, Question};
 use differential::expected::Oracle;
 use differential::minimise::minimised;
 use differential::{log, questions};
@@ -99,7 +99,7 @@ impl Run {
             counts.asked[ask] += 1;
             match answer.refusal() {
                 Some(refusal) => counts.refused.entry(refusal).or_default()[ask] += 1,
-                None => counts.blank[ask] += (answer == differential::answer::Answer::Blank) as u64,
+                None => counts.blank[ask] += (answer == Answer::Blank) as u64,
             }
             if product.answer(&question, room) != answer {
                 return false;
@@ -113,10 +113,12 @@ impl Run {
         let (log, mut random) = log(self.seed, index);
         let differs = |question: &Question| {
             let (answer, room) = Oracle::default().answer(question);
-            !self.skip.contains(&question.ask.index()) && Product::new().answer(question, room) != answer
+            !self.skip.contains(&question.ask.index())
+                && Product::new().answer(question, room) != answer
         };
         let all = questions::about(&mut random, &log);
-        let question = all.iter().find(|question| differs(question)).expect("a log with a difference");
+        let question =
+            all.iter().find(|question| differs(question)).expect("a log with a difference");
         let (text, ty) = minimised(question, &differs);
         let small = Question { text: &text, ty: &ty, ..*question };
         let (answer, room) = Oracle::default().answer(&small);
@@ -126,6 +128,32 @@ impl Run {
         }
         println!("oracle:  {}", answer.print());
         println!("product: {}", Product::new().answer(&small, room).print());
+    }
+}
+
+impl Run {
+    /// True where nothing is to be looked at.
+    fn report(&self, total: &Counts) -> bool {
+        let first = self.first.load(Ordering::Relaxed);
+        if first != u64::MAX {
+            self.show(first);
+            return false;
+        }
+        let asked: u64 = total.asked.iter().sum();
+        let seconds = self.started.elapsed().as_secs();
+        println!(
+            "seed {}: {} logs, {} bytes, {asked} questions, {seconds} s",
+            self.seed, self.count, total.bytes
+        );
+        self.skip.iter().for_each(|index| println!("left out: {}", ASKS[*index]));
+        total.print();
+        let missing = total.missing();
+        if !missing.is_empty() {
+            println!("refusals that were not met: {missing:?}");
+            return false;
+        }
+        println!("no difference");
+        true
     }
 }
 
@@ -144,8 +172,16 @@ fn main() {
     };
     let threads = std::env::var("THREADS").map_or(1, |word| number(&word)).clamp(1, 2);
     let skipped = std::env::var("SKIP").unwrap_or_default();
-    let skip: Vec<usize> = (0..6).filter(|index| skipped.split(',').any(|name| name == ASKS[*index])).collect();
-    let run = Run { seed, count, threads, skip, first: AtomicU64::new(u64::MAX), started: Instant::now() };
+    let skip: Vec<usize> =
+        (0..6).filter(|index| skipped.split(',').any(|name| name == ASKS[*index])).collect();
+    let run = Run {
+        seed,
+        count,
+        threads,
+        skip,
+        first: AtomicU64::new(u64::MAX),
+        started: Instant::now(),
+    };
     let total = Mutex::new(Counts::default());
     std::thread::scope(|scope| {
         for thread in 0..threads {
@@ -156,20 +192,8 @@ fn main() {
             });
         }
     });
-    let first = run.first.load(Ordering::Relaxed);
-    if first != u64::MAX {
-        run.show(first);
-        exit(1);
-    }
     let total = total.into_inner().expect("no thread failed");
-    let asked: u64 = total.asked.iter().sum();
-    println!("seed {seed}: {count} logs, {} bytes, {asked} questions, {} s", total.bytes, run.started.elapsed().as_secs());
-    run.skip.iter().for_each(|index| println!("left out: {}", ASKS[*index]));
-    total.print();
-    let missing = total.missing();
-    if !missing.is_empty() {
-        println!("refusals that were not met: {missing:?}");
+    if !run.report(&total) {
         exit(1);
     }
-    println!("no difference");
 }

@@ -27,7 +27,11 @@ impl<'a> Oracle<'a> {
     fn without_room(&mut self, question: &Question<'a>) -> Answer {
         let short = !matches!(question.lent, Lent::Longer | Lent::Exact);
         if short && question.ask.has_tables() {
-            return if question.ask == Ask::Judge { Answer::RefusedAt(1, 0) } else { Answer::Refused(1) };
+            return if question.ask == Ask::Judge {
+                Answer::RefusedAt(1, 0)
+            } else {
+                Answer::Refused(1)
+            };
         }
         let text = question.text;
         match question.ask {
@@ -39,20 +43,24 @@ impl<'a> Oracle<'a> {
                 let Pack { kinds, numbers, texts } = Pack::of_event(line, event);
                 Answer::Pack(Tables { kinds, numbers, texts })
             }),
-            Ask::List(number) => self.line(text, |_, event| Answer::Text(listing::event(number, event).into_bytes())),
+            Ask::List(number) => {
+                self.line(text, |_, event| Answer::Text(listing::event(number, event).into_bytes()))
+            }
             Ask::Cut => {
-                let places = answers::cut_places(text).map(|places| places.into_iter().map(|at| at as u64).collect());
+                let places = answers::cut_places(text)
+                    .map(|places| places.into_iter().map(|at| at as u64).collect());
                 places.map_or_else(Answer::Refused, Answer::Places)
             }
-            Ask::Decode => answers::decoded(text).map_or_else(Answer::Refused, |text| Answer::Text(text.into_bytes())),
-            Ask::Key => {
-                answers::stored_key(question.ty, text).map_or_else(Answer::Refused, |key| Answer::Text(key.into_bytes()))
-            }
+            Ask::Decode => answers::decoded(text)
+                .map_or_else(Answer::Refused, |text| Answer::Text(text.into_bytes())),
+            Ask::Key => answers::stored_key(question.ty, text)
+                .map_or_else(Answer::Refused, |key| Answer::Text(key.into_bytes())),
         }
     }
 
     fn line(&mut self, text: &'a [u8], of_event: impl Fn(&str, &Event) -> Answer) -> Answer {
-        let same = |kept: &[u8]| std::ptr::eq(kept.as_ptr(), text.as_ptr()) && kept.len() == text.len();
+        let same =
+            |kept: &[u8]| std::ptr::eq(kept.as_ptr(), text.as_ptr()) && kept.len() == text.len();
         let known = self.last.as_ref().is_some_and(|(kept, _)| same(kept));
         if !known {
             self.last = Some((text, limits::line(text)));

@@ -18,6 +18,7 @@ mod print;
 pub mod questions;
 pub mod reader;
 mod scan;
+#[rustfmt::skip]
 mod words;
 
 /// The log of this number, and a source of further choices about it.

@@ -26,7 +26,10 @@ fn range_ends() -> &'static [char] {
 
 /// A seed for one log: logs of neighbouring numbers have nothing in common.
 fn mixed(seed: u64, index: u64) -> u64 {
-    let mut n = seed.wrapping_mul(0xd134_2543_de82_ef95).wrapping_add(index).wrapping_add(0x9e37_79b9_7f4a_7c15);
+    let mut n = seed
+        .wrapping_mul(0xd134_2543_de82_ef95)
+        .wrapping_add(index)
+        .wrapping_add(0x9e37_79b9_7f4a_7c15);
     n = (n ^ (n >> 30)).wrapping_mul(0xbf58_476d_1ce4_e5b9);
     n = (n ^ (n >> 27)).wrapping_mul(0x94d0_49bb_1331_11eb);
     n ^ (n >> 31)
@@ -87,7 +90,8 @@ impl Maker {
             }
             log += &line;
             if index + 1 < count || self.random.once_in(2) {
-                let ends = if self.tame && !self.random.once_in(8) { &LINE_ENDS[..9] } else { &LINE_ENDS };
+                let ends =
+                    if self.tame && !self.random.once_in(8) { &LINE_ENDS[..9] } else { &LINE_ENDS };
                 log += *self.random.pick(ends);
             }
         }
@@ -115,7 +119,22 @@ impl Maker {
     /// Every fault beside every other.
     fn faults(&mut self) -> String {
         let r = &mut self.random;
-        let front = *r.pick(&["@0 ", "@0 ", "@0 ", "@0 ", "@0 ", "@0 ", "", "0 ", "@", "@0", "@x ", "@ 0 ", "x@0 ", "\u{feff}@0 "]);
+        let front = *r.pick(&[
+            "@0 ",
+            "@0 ",
+            "@0 ",
+            "@0 ",
+            "@0 ",
+            "@0 ",
+            "",
+            "0 ",
+            "@",
+            "@0",
+            "@x ",
+            "@ 0 ",
+            "x@0 ",
+            "\u{feff}@0 ",
+        ]);
         let mut parts = [*r.pick(&SCOPES), *r.pick(&ENTITIES), *r.pick(&CONTEXTS)];
         if r.once_in(12) {
             let (a, b) = (r.below(3), r.below(3));
@@ -127,13 +146,12 @@ impl Maker {
         format!("{front}{a}{}{b}{}{c}{}{end}", spaces[0], spaces[1], spaces[2])
     }
 
+    /// Every fault of an entry beside every other, behind an entry whose key it may repeat.
     fn entry_faults(&mut self) -> String {
         let r = &mut self.random;
-        let before = *r.pick(&["", "T::\"a\":{},", "T::\"a\":{b:1}in[T::\"b\"],"]);
-        let key = *r.pick(&["T::\"a\"", "T::\"\\x61\"", "x", "[{a}]", "{a:1,a:1}", "", "T::\"a\" ", "T", "::\"\""]);
-        let colon = *r.pick(&[":", ":", ":", ":", "", " : ", "::", ":x"]);
-        let record = *r.pick(&["{}", "{}", "{b:1}", "{b}", "{b:1,b:1}", "{b:1,b:{c}}", "{(}", "{", "[{}]", "{\"}\"}", "{b:\"}\"}", "{b:{c:1}}"]);
-        let tail = *r.pick(&["", "", "y", "in", "i", "in[", "in[]", "in[1]", "in[{c}]", "in[T::\"a\"]", "in [ T::\"a\" , ]", "in[T::\"b\"],", "in[]]", "in[[]]"]);
+        let (before, key) = (*r.pick(&BEFORE_ENTRIES), *r.pick(&ENTRY_KEYS));
+        let (colon, record) = (*r.pick(&ENTRY_COLONS), *r.pick(&ENTRY_RECORDS));
+        let tail = *r.pick(&ENTRY_TAILS);
         let behind = self.space();
         format!("@0 entities({before}{key}{colon}{record}{behind}{tail})::\"\"::k()")
     }
@@ -146,7 +164,9 @@ impl Maker {
         let spaces = if self.tame { &WHITE_SPACE[1..] } else { &WHITE_SPACE };
         match self.random.below(12) {
             0..=4 => " ".to_string(),
-            5 if self.random.once_in(if self.tame { 20 } else { 2 }) => self.random.pick(&NO_SPACE).to_string(),
+            5 if self.random.once_in(if self.tame { 20 } else { 2 }) => {
+                self.random.pick(&NO_SPACE).to_string()
+            }
             6 => format!("{}{}", self.random.pick(spaces), self.random.pick(spaces)),
             _ => self.random.pick(spaces).to_string(),
         }
@@ -170,7 +190,10 @@ impl Maker {
         let calm = |word: &str| {
             let count = |c: char| word.matches(c).count();
             let quotes = count('"') % 2 == 0 && !word.contains("\\\"");
-            quotes && [('(', ')'), ('[', ']'), ('{', '}')].iter().all(|(open, close)| count(*open) == count(*close))
+            quotes
+                && [('(', ')'), ('[', ']'), ('{', '}')]
+                    .iter()
+                    .all(|(open, close)| count(*open) == count(*close))
         };
         loop {
             let word = *self.random.pick(from);
@@ -186,7 +209,9 @@ impl Maker {
             3 => self.random.below(0x110000) as u32,
             4 => self.random.below(0x3000) as u32,
             5 => self.random.below(0x80) as u32,
-            _ => *self.random.pick(&['é', '😀', '\u{301}', '\u{200d}', '\u{7f}', '\u{0}', '\u{e000}', '\u{ffff}']) as u32,
+            _ => *self.random.pick(&[
+                'é', '😀', '\u{301}', '\u{200d}', '\u{7f}', '\u{0}', '\u{e000}', '\u{ffff}',
+            ]) as u32,
         };
         let plain = |c: &char| !"\"\\()[]{}:,\n".contains(*c);
         char::from_u32(code).filter(plain).unwrap_or('\u{fffd}')
@@ -197,7 +222,8 @@ impl Maker {
             return self.random.pick(&ESCAPES).to_string();
         }
         let count = self.random.below(9);
-        let digits = ["0", "0", "1", "4", "7", "a", "F", "d", "D", "8", "_", "_", "+", "-", "e", "9"];
+        let digits =
+            ["0", "0", "1", "4", "7", "a", "F", "d", "D", "8", "_", "_", "+", "-", "e", "9"];
         let inside = self.random.words(&digits, count);
         match self.random.below(4) {
             0 => format!("\\x{inside}"),
@@ -213,7 +239,9 @@ impl Maker {
                 0..=2 => out += *self.random.pick(&["a", "K7", "night", " ", "'", "b c", "."]),
                 3..=5 => out.push(self.char()),
                 6..=9 => out += &self.escape(),
-                10 => out += *self.random.pick(&[",", ":", "(", ")", "[", "]", "{", "}", "::", "@"]),
+                10 => {
+                    out += *self.random.pick(&[",", ":", "(", ")", "[", "]", "{", "}", "::", "@"])
+                }
                 _ => out += &self.space(),
             }
         }
@@ -221,7 +249,8 @@ impl Maker {
     }
 
     fn quoted(&mut self) -> String {
-        let inside = if self.random.once_in(3) { self.random.pick(&IDS).to_string() } else { self.inside() };
+        let inside =
+            if self.random.once_in(3) { self.random.pick(&IDS).to_string() } else { self.inside() };
         format!("\"{inside}\"")
     }
 
@@ -245,7 +274,12 @@ impl Maker {
         }
         if r.once_in(4) {
             let count = r.below(3);
-            out += &format!("{}{}{}", r.pick(&["e", "E"]), r.pick(&["", "+", "-"]), r.words(&["0", "1"], count));
+            out += &format!(
+                "{}{}{}",
+                r.pick(&["e", "E"]),
+                r.pick(&["", "+", "-"]),
+                r.words(&["0", "1"], count)
+            );
         }
         out
     }
@@ -312,12 +346,14 @@ impl Maker {
 
     fn entry(&mut self) -> String {
         let key = self.entity();
-        let mut out = format!("{}:{}{{{}}}{}", self.spaced(&key), self.space(), self.fields(1), self.space());
+        let mut out =
+            format!("{}:{}{{{}}}{}", self.spaced(&key), self.space(), self.fields(1), self.space());
         if self.random.once_in(2) {
             let count = self.random.below(4);
             let parents: Vec<String> = (0..count)
                 .map(|_| {
-                    let parent = if self.random.once_in(25) { self.value(1) } else { self.entity() };
+                    let parent =
+                        if self.random.once_in(25) { self.value(1) } else { self.entity() };
                     self.spaced(&parent)
                 })
                 .collect();
@@ -369,12 +405,20 @@ impl Maker {
     }
 
     fn line(&mut self) -> String {
-        let time = if self.random.once_in(if self.tame { 30 } else { 6 }) { *self.random.pick(&TIMES) } else { *self.random.pick(&TIMES[..16]) };
+        let time = if self.random.once_in(if self.tame { 30 } else { 6 }) {
+            *self.random.pick(&TIMES)
+        } else {
+            *self.random.pick(&TIMES[..16])
+        };
         let gap = if self.random.once_in(3) { *self.random.pick(&WHITE_SPACE[1..]) } else { " " };
         let gap = format!("{gap}{}", self.space());
         let (envelopes, head) = (self.envelopes(), self.head());
         let group = self.fields(3);
-        let behind = if self.random.once_in(8) { *self.random.pick(&[" text", "x", "(", " \"", "}"]) } else { "" };
+        let behind = if self.random.once_in(8) {
+            *self.random.pick(&[" text", "x", "(", " \"", "}"])
+        } else {
+            ""
+        };
         let line = format!("@{time}{gap}{envelopes}{head}({group}){behind}");
         self.spaced(&line)
     }
@@ -398,13 +442,12 @@ impl Maker {
     /// Nesting around the depth limit, in each place where a value can stand.
     fn deep(&mut self) -> String {
         let levels = 126 + self.random.below(6);
-        let inside = *self.random.pick(&["", "1", " ", ",", "[]", "{}", "{a}", "\"x\"", "T::\"a\"", "{a:1,a:2}"]);
-        let forms = [("[", "]"), ("{a:", "}"), ("[ ", "]"), ("{a:[", "]}"), ("[1,", "]"), ("{b:1,a:", "}"), ("[", " ,]")];
-        let (open, close) = *self.random.pick(&forms);
+        let inside = *self.random.pick(&INNERMOST);
+        let (open, close) = *self.random.pick(&NESTINGS);
         let levels = if open.contains("a:[") { levels / 2 } else { levels };
-        let front = *self.random.pick(&["", "[", "{x:"]);
-        let behind = [("", ""), ("[", "]"), ("{x:", "}")].iter().find(|(open, _)| *open == front).map_or("", |(_, close)| close);
-        let value = format!("{front}{}{inside}{}{behind}", open.repeat(levels), close.repeat(levels));
+        let (front, behind) = *self.random.pick(&[("", ""), ("[", "]"), ("{x:", "}")]);
+        let value =
+            format!("{front}{}{inside}{}{behind}", open.repeat(levels), close.repeat(levels));
         match self.random.below(8) {
             0 => format!("@0 scope(principal:{value})::\"\"::k()"),
             1 => format!("@0 entities({value}:{{}})::\"\"::k()"),
@@ -445,9 +488,20 @@ impl Maker {
             items.push(format!("{ty}\"{text}\""));
         }
         match self.random.below(3) {
-            0 => items.into_iter().map(|item| format!("@0 {}::k()\n", item.replacen("T::\"", "\"", 1).replacen('"', "::\"", 1))).take(6).collect(),
+            0 => items
+                .into_iter()
+                .map(|item| {
+                    format!(
+                        "@0 {}::k()\n",
+                        item.replacen("T::\"", "\"", 1).replacen('"', "::\"", 1)
+                    )
+                })
+                .take(6)
+                .collect(),
             1 => {
-                let entry = |item: String| format!("{}:{{}}", item.replacen("T::\"", "\"", 1).replacen('"', "::\"", 1));
+                let entry = |item: String| {
+                    format!("{}:{{}}", item.replacen("T::\"", "\"", 1).replacen('"', "::\"", 1))
+                };
                 let mut entries: Vec<String> = items.into_iter().map(entry).collect();
                 entries.sort();
                 entries.dedup();
@@ -459,7 +513,10 @@ impl Maker {
 
     /// So many bytes of one filling.
     fn filling(&mut self, length: usize) -> String {
-        let unit = *self.random.pick(&["x", "x", "\u{7f}", "é", "\\n", "1,", "a:1,", "[],", "\u{3000}", "\u{301}", "'", " ", "\"\",", "😀"]);
+        let unit = *self.random.pick(&[
+            "x", "x", "\u{7f}", "é", "\\n", "1,", "a:1,", "[],", "\u{3000}", "\u{301}", "'", " ",
+            "\"\",", "😀",
+        ]);
         let mut out = unit.repeat(length / unit.len());
         out += &"x".repeat(length - out.len());
         out
@@ -482,7 +539,13 @@ impl Maker {
         let fill = self.filling(length - front.len() - behind.len());
         let mut line = format!("{front}{fill}{behind}");
         match self.random.below(5) {
-            0 => line = format!("{}{line}{}", self.random.pick(&WHITE_SPACE), self.random.pick(&WHITE_SPACE)),
+            0 => {
+                line = format!(
+                    "{}{line}{}",
+                    self.random.pick(&WHITE_SPACE),
+                    self.random.pick(&WHITE_SPACE)
+                )
+            }
             1 => line = format!("{}{line}", " ".repeat(*self.random.pick(&[1, 2, 4_096]))),
             2 => line = format!("@1 ::\"\"::k()\n{line}\r\n@2 ::\"\"::k()"),
             3 => line = self.random.pick(&WHITE_SPACE).repeat(length),
@@ -526,9 +589,11 @@ impl Maker {
         if log.is_empty() {
             return;
         }
-        let special: Vec<usize> = (0..log.len()).filter(|at| b"@:(){}[]\"\\,".contains(&log[*at])).collect();
+        let special: Vec<usize> =
+            (0..log.len()).filter(|at| b"@:(){}[]\"\\,".contains(&log[*at])).collect();
         let r = &mut self.random;
-        let at = if special.is_empty() || r.once_in(3) { r.below(log.len()) } else { *r.pick(&special) };
+        let at =
+            if special.is_empty() || r.once_in(3) { r.below(log.len()) } else { *r.pick(&special) };
         match r.below(9) {
             0 | 1 => drop(log.remove(at)),
             2 | 3 => log.insert(at, log[at]),

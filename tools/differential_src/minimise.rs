@@ -4,10 +4,12 @@ use crate::answer::Question;
 
 /// Removes stretches of the text, long ones first, while the difference stays.
 pub fn minimised(question: &Question, differs: &dyn Fn(&Question) -> bool) -> (Vec<u8>, Vec<u8>) {
-    let lines: Vec<Vec<u8>> = question.text.split_inclusive(|b| *b == b'\n').map(<[u8]>::to_vec).collect();
+    let lines: Vec<Vec<u8>> =
+        question.text.split_inclusive(|b| *b == b'\n').map(<[u8]>::to_vec).collect();
     let kept = shrink(lines, &|lines| differs(&Question { text: &lines.concat(), ..*question }));
     let text = shrink(kept.concat(), &|text| differs(&Question { text, ..*question }));
-    let ty = shrink(question.ty.to_vec(), &|ty| differs(&Question { text: &text, ty, ..*question }));
+    let ty =
+        shrink(question.ty.to_vec(), &|ty| differs(&Question { text: &text, ty, ..*question }));
     (text, ty)
 }
 

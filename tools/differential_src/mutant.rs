@@ -270,7 +270,10 @@ fn at_ranges(ranges: &[oracle::ranges::Range]) -> Vec<(Mutant, String)> {
     for part in 0..=4 {
         let (_, end) = ranges[(ranges.len() - 1) * part / 4];
         if let Some(last) = char::from_u32(end - 1) {
-            out.push((Mutant::Plain(last), format!("U+{:04X} is not written as a number", end - 1)));
+            out.push((
+                Mutant::Plain(last),
+                format!("U+{:04X} is not written as a number", end - 1),
+            ));
         }
         let plain = |c: &char| !format!("a{c}").escape_debug().to_string().ends_with('}');
         if let Some(next) = char::from_u32(end).filter(plain) {

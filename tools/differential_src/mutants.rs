@@ -32,6 +32,26 @@ fn stop(seed: u64, index: u64, reader: &Reader, question: &Question) -> ! {
     exit(1);
 }
 
+/// Asks the readers about one log: how many questions it gives.
+fn ask(seed: u64, index: u64, honest: &Reader, candidates: &mut [Candidate]) -> usize {
+    let (log, mut random) = log(seed, index);
+    let mut oracle = Oracle::default();
+    let questions = questions::about(&mut random, &log);
+    for question in &questions {
+        let (answer, room) = oracle.answer(question);
+        if honest.answer(question, room) != answer {
+            stop(seed, index, honest, question);
+        }
+        let alive = candidates.iter_mut().filter(|candidate| candidate.caught.is_none());
+        alive.filter(|candidate| candidate.reader.answer(question, room) != answer).for_each(
+            |candidate| {
+                candidate.caught = Some((index, ASKS[question.ask.index()]));
+            },
+        );
+    }
+    questions.len()
+}
+
 fn main() {
     let number = |at: usize, default: u64| match std::env::args().nth(at) {
         Some(word) => word.parse().unwrap_or_else(|_| {
@@ -46,24 +66,10 @@ fn main() {
         .into_iter()
         .map(|(mutant, what)| Candidate { reader: Reader { mutant }, what, caught: None })
         .collect();
-    let mut asked = 0;
-    for index in 0..count {
-        let (log, mut random) = log(seed, index);
-        let mut oracle = Oracle::default();
-        for question in questions::about(&mut random, &log) {
-            let (answer, room) = oracle.answer(&question);
-            asked += 1;
-            if honest.answer(&question, room) != answer {
-                stop(seed, index, &honest, &question);
-            }
-            for candidate in candidates.iter_mut().filter(|candidate| candidate.caught.is_none()) {
-                if candidate.reader.answer(&question, room) != answer {
-                    candidate.caught = Some((index, ASKS[question.ask.index()]));
-                }
-            }
-        }
-    }
-    println!("seed {seed}: {count} logs, {asked} questions; the second reader has no difference from the oracle");
+    let asked: usize = (0..count).map(|index| ask(seed, index, &honest, &mut candidates)).sum();
+    println!(
+        "seed {seed}: {count} logs, {asked} questions; the second reader has no difference from the oracle"
+    );
     report(&candidates);
 }
 

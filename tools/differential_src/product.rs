@@ -2,50 +2,25 @@
 
 use differential::answer::{Answer, Ask, Lent, Question, Tables};
 
+#[rustfmt::skip]
 mod c {
     unsafe extern "C" {
         pub fn lulzhemor_judge(
-            kinds: *mut u8,
-            kinds_len: usize,
-            numbers: *mut u64,
-            numbers_len: usize,
-            texts: *mut u8,
-            texts_len: usize,
-            log: *const u8,
-            log_len: usize,
+            kinds: *mut u8, kinds_len: usize, numbers: *mut u64, numbers_len: usize, texts: *mut u8, texts_len: usize,
+            log: *const u8, log_len: usize,
         ) -> u64;
         pub fn lulzhemor_read_line(
-            kinds: *mut u8,
-            kinds_len: usize,
-            numbers: *mut u64,
-            numbers_len: usize,
-            texts: *mut u8,
-            texts_len: usize,
-            line: *const u8,
-            line_len: usize,
+            kinds: *mut u8, kinds_len: usize, numbers: *mut u64, numbers_len: usize, texts: *mut u8, texts_len: usize,
+            line: *const u8, line_len: usize,
         ) -> u64;
         pub fn lulzhemor_list_line(
-            kinds: *mut u8,
-            kinds_len: usize,
-            numbers: *mut u64,
-            numbers_len: usize,
-            texts: *mut u8,
-            texts_len: usize,
-            out: *mut u8,
-            out_len: usize,
-            line: *const u8,
-            line_len: usize,
-            number: u64,
+            kinds: *mut u8, kinds_len: usize, numbers: *mut u64, numbers_len: usize, texts: *mut u8, texts_len: usize,
+            out: *mut u8, out_len: usize, line: *const u8, line_len: usize, number: u64,
         ) -> u64;
         pub fn lulzhemor_cut_body(out: *mut u64, out_len: usize, body: *const u8, body_len: usize) -> u64;
         pub fn lulzhemor_decode(out: *mut u8, out_len: usize, text: *const u8, text_len: usize) -> u64;
         pub fn lulzhemor_spell_key(
-            out: *mut u8,
-            out_len: usize,
-            ty: *const u8,
-            ty_len: usize,
-            id: *const u8,
-            id_len: usize,
+            out: *mut u8, out_len: usize, ty: *const u8, ty_len: usize, id: *const u8, id_len: usize,
         ) -> u64;
     }
 }
@@ -108,7 +83,16 @@ impl Product {
             Ask::Key => self.text_answer(room, |out, len| {
                 let ty = question.ty;
                 // SAFETY: all slices are borrowed for the call.
-                unsafe { c::lulzhemor_spell_key(out, len, ty.as_ptr(), ty.len(), text.as_ptr(), text.len()) }
+                unsafe {
+                    c::lulzhemor_spell_key(
+                        out,
+                        len,
+                        ty.as_ptr(),
+                        ty.len(),
+                        text.as_ptr(),
+                        text.len(),
+                    )
+                }
             }),
             Ask::Judge | Ask::Read | Ask::List(_) => self.with_tables(question, room),
         }
@@ -118,7 +102,9 @@ impl Product {
         self.places.clear();
         self.places.resize(room + BEHIND, OLD_NUMBER);
         // SAFETY: both slices are borrowed for the call.
-        let code = unsafe { c::lulzhemor_cut_body(self.places.as_mut_ptr(), room, body.as_ptr(), body.len()) };
+        let code = unsafe {
+            c::lulzhemor_cut_body(self.places.as_mut_ptr(), room, body.as_ptr(), body.len())
+        };
         let count = if code < REFUSED { code as usize } else { 0 };
         if count > room || !all_old_numbers(&self.places[count..]) {
             return Answer::Broken(format!("answer {code:#x}: the output is changed past it"));
@@ -169,8 +155,9 @@ impl Product {
         }
     }
 
+    #[rustfmt::skip]
     fn call(&mut self, question: &Question, room: usize) -> u64 {
-        let (kinds_len, numbers_len, texts_len) = match question.lent {
+        let (k, n, t) = match question.lent {
             Lent::Longer => (NODES + 1, NODES + 9, TEXTS + 5),
             Lent::Exact => (NODES, NODES, TEXTS),
             Lent::ShortKinds => (NODES - 1, NODES + 9, TEXTS),
@@ -181,16 +168,14 @@ impl Product {
         let (text, len) = (question.text.as_ptr(), question.text.len());
         match question.ask {
             // SAFETY, of each call: pointer and length are those of a slice that is borrowed for the call.
-            Ask::Judge => unsafe { c::lulzhemor_judge(kinds, kinds_len, numbers, numbers_len, texts, texts_len, text, len) },
+            Ask::Judge => unsafe { c::lulzhemor_judge(kinds, k, numbers, n, texts, t, text, len) },
             Ask::List(number) => {
                 self.out.clear();
                 self.out.resize(room + BEHIND, OLD);
                 let out = self.out.as_mut_ptr();
-                unsafe {
-                    c::lulzhemor_list_line(kinds, kinds_len, numbers, numbers_len, texts, texts_len, out, room, text, len, number)
-                }
+                unsafe { c::lulzhemor_list_line(kinds, k, numbers, n, texts, t, out, room, text, len, number) }
             }
-            _ => unsafe { c::lulzhemor_read_line(kinds, kinds_len, numbers, numbers_len, texts, texts_len, text, len) },
+            _ => unsafe { c::lulzhemor_read_line(kinds, k, numbers, n, texts, t, text, len) },
         }
     }
 
@@ -211,7 +196,8 @@ impl Product {
     fn fault(&self, left: &Left) -> Option<&'static str> {
         let (nodes, texts) = match left {
             Left::Unchanged => {
-                let old = all_old(&self.kinds) && all_old_numbers(&self.numbers) && all_old(&self.texts);
+                let old =
+                    all_old(&self.kinds) && all_old_numbers(&self.numbers) && all_old(&self.texts);
                 return (!old).then_some("a table is changed");
             }
             Left::Zeros => (0, 0),
@@ -226,7 +212,9 @@ impl Product {
         if self.texts[texts..TEXTS] != ZEROS[texts..] {
             return Some("texts are not 0 behind the pack");
         }
-        let old = all_old(&self.kinds[NODES..]) && all_old_numbers(&self.numbers[NODES..]) && all_old(&self.texts[TEXTS..]);
+        let old = all_old(&self.kinds[NODES..])
+            && all_old_numbers(&self.numbers[NODES..])
+            && all_old(&self.texts[TEXTS..]);
         (!old).then_some("a table is changed past its used length")
     }
 }

@@ -60,7 +60,8 @@ fn drawn<'a>(random: &mut Random, log: &'a [u8]) -> &'a [u8] {
     match random.below(8) {
         0 | 1 => log,
         2..=4 => {
-            let marks: Vec<usize> = (0..log.len()).filter(|at| b"\"()[]{}".contains(&log[*at])).take(400).collect();
+            let marks: Vec<usize> =
+                (0..log.len()).filter(|at| b"\"()[]{}".contains(&log[*at])).take(400).collect();
             if marks.len() < 2 {
                 return log;
             }
@@ -77,7 +78,11 @@ fn drawn<'a>(random: &mut Random, log: &'a [u8]) -> &'a [u8] {
             let (a, b) = (random.below(log.len() + 1), random.below(log.len() + 1));
             let (a, b) = (a.min(b), a.max(b));
             // Rarely in the middle of a character.
-            if kind == 5 && random.once_in(8) { &log[a..b] } else { &log[boundary(log, a)..boundary(log, b)] }
+            if kind == 5 && random.once_in(8) {
+                &log[a..b]
+            } else {
+                &log[boundary(log, a)..boundary(log, b)]
+            }
         }
     }
 }
