@@ -1,36 +1,54 @@
 //! The smallest text that still shows a difference: lines are removed, then bytes.
 
 use crate::answer::Question;
+use std::time::{Duration, Instant};
 
-/// Removes stretches of the text, long ones first, while the difference stays.
+/// A difference that needs a long text would take hours.
+const LONGEST: Duration = Duration::from_secs(60);
+/// Stretches so short are tried at every place: a character of several bytes goes as one.
+const SHORT: usize = 8;
+
+/// The text, and of a key the type, that are left.
 pub fn minimised(question: &Question, differs: &dyn Fn(&Question) -> bool) -> (Vec<u8>, Vec<u8>) {
+    let end = Instant::now() + LONGEST;
     let lines: Vec<Vec<u8>> =
         question.text.split_inclusive(|b| *b == b'\n').map(<[u8]>::to_vec).collect();
-    let kept = shrink(lines, &|lines| differs(&Question { text: &lines.concat(), ..*question }));
-    let text = shrink(kept.concat(), &|text| differs(&Question { text, ..*question }));
-    let ty =
-        shrink(question.ty.to_vec(), &|ty| differs(&Question { text: &text, ty, ..*question }));
+    let with = |text: &[u8]| differs(&Question { text, ..*question });
+    let lines = smallest(lines, &|lines| with(&lines.concat()), end);
+    let text = smallest(lines.concat(), &|text| with(text), end);
+    let with_type = |ty: &[u8]| differs(&Question { text: &text, ty, ..*question });
+    let ty = smallest(question.ty.to_vec(), &|ty| with_type(ty), end);
     (text, ty)
 }
 
-fn shrink<T: Clone>(mut whole: Vec<T>, differs: &dyn Fn(&[T]) -> bool) -> Vec<T> {
-    let mut size = whole.len();
-    while size > 0 {
-        let mut at = 0;
-        let mut removed = false;
-        while at < whole.len() {
-            let mut less = whole.clone();
-            less.drain(at..(at + size).min(whole.len()));
-            if differs(&less) {
-                whole = less;
-                removed = true;
-            } else {
-                at += size;
-            }
+/// Removes stretches, long ones first, until none can go.
+fn smallest<T: Clone>(mut whole: Vec<T>, differs: &dyn Fn(&[T]) -> bool, end: Instant) -> Vec<T> {
+    let mut before = usize::MAX;
+    while whole.len() < before {
+        before = whole.len();
+        let mut size = whole.len();
+        while size > 0 {
+            whole = without(whole, size, differs, end);
+            size = if size > SHORT { size / 2 } else { size - 1 };
         }
-        // The last size goes on until nothing more can go.
-        if size > 1 || !removed {
-            size /= 2;
+    }
+    whole
+}
+
+/// Removes every stretch of this size that can go.
+fn without<T: Clone>(
+    mut whole: Vec<T>,
+    size: usize,
+    differs: &dyn Fn(&[T]) -> bool,
+    end: Instant,
+) -> Vec<T> {
+    let mut at = 0;
+    while at + size <= whole.len() && Instant::now() < end {
+        let less = [&whole[..at], &whole[at + size..]].concat();
+        if differs(&less) {
+            whole = less;
+        } else {
+            at += if size > SHORT { size } else { 1 };
         }
     }
     whole
