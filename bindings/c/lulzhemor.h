@@ -1,0 +1,141 @@
+/*
+ * Lulzhemor: reads the .log format of the policy engine Dogwood. Every function here is proved to return, to stay inside what it is lent,
+ * and to answer what its definition says, on every input. Nothing is kept between calls, nothing is allocated.
+ *
+ * Link with target/staticlib/libexports.a (`rt staticlib exports`), for x86-64 Linux.
+ *
+ * What the caller sees to, for every pointer with its length:
+ *   - it is not null, also where the length is 0;
+ *   - so many entries may be read there, and written where the parameter is not const;
+ *   - an output or table overlaps nothing else that is handed to the same call.
+ * Any bytes may stand in texts, tables and outputs before a call. Calls with different tables may run at the same time.
+ */
+#ifndef LULZHEMOR_H
+#define LULZHEMOR_H
+
+#include <stdbool.h>
+#include <stddef.h>
+#include <stdint.h>
+
+#ifdef __cplusplus
+extern "C" {
+#endif
+
+/* ---- Bounds ---- */
+
+/* A log or any other text, in bytes: refusal 2 above this. */
+#define LULZHEMOR_TEXT_LIMIT 65536
+/* A trimmed line, a body, an id or a type, in bytes: refusal 4 above this. */
+#define LULZHEMOR_LINE_LIMIT 4096
+/* The least entries of a pack's kinds and of its numbers, and of its text bytes: refusal 1 below this. A longer table is used this far. */
+#define LULZHEMOR_NODES 8192
+#define LULZHEMOR_TEXTS 32768
+
+/* ---- Answers ----
+ * One number each. A success is below LULZHEMOR_REFUSED, a refusal is LULZHEMOR_REFUSED and its number, and from lulzhemor_judge 256 times
+ * its line more; lines count from 1, and line 0 is the whole text. */
+
+#define LULZHEMOR_REFUSED (UINT64_C(1) << 32)
+
+static inline bool lulzhemor_refused(uint64_t answer) { return answer >= LULZHEMOR_REFUSED; }
+
+/* A refusal's number, one of enum lulzhemor_refusal. */
+static inline unsigned lulzhemor_refusal(uint64_t answer) { return (unsigned)(answer & 255); }
+
+/* The line of a refusal of lulzhemor_judge. */
+static inline uint32_t lulzhemor_refusal_line(uint64_t answer) { return (uint32_t)((answer - LULZHEMOR_REFUSED) >> 8); }
+
+/* The sizes of the pack that lulzhemor_read_line left: nodes, and text bytes. */
+static inline uint32_t lulzhemor_pack_nodes(uint64_t answer) { return (uint32_t)(answer & 65535); }
+static inline uint32_t lulzhemor_pack_texts(uint64_t answer) { return (uint32_t)(answer >> 16); }
+
+enum lulzhemor_refusal {
+    LULZHEMOR_TABLE_TOO_SHORT = 1,         /* a pack table is shorter than its bound */
+    LULZHEMOR_TEXT_TOO_LONG = 2,           /* a text has over 65,536 bytes */
+    LULZHEMOR_NOT_UTF8 = 3,                /* a text is not UTF-8 */
+    LULZHEMOR_LINE_TOO_LONG = 4,           /* a trimmed line, body, id or type has over 4,096 bytes */
+    LULZHEMOR_OUTPUT_TOO_SHORT = 5,        /* the output holds less than the answer needs */
+    LULZHEMOR_NO_AT = 10,                  /* a line does not begin with @ */
+    LULZHEMOR_NO_SPACE_AFTER_TIME = 11,    /* no whitespace after the timestamp */
+    LULZHEMOR_BAD_TIME = 12,               /* the timestamp is not an i64 */
+    LULZHEMOR_SCOPE_UNCLOSED = 13,         /* scope without ) */
+    LULZHEMOR_ENTITIES_UNCLOSED = 14,      /* entities without ) */
+    LULZHEMOR_CONTEXT_UNCLOSED = 15,       /* request_context without ) */
+    LULZHEMOR_EVENT_UNOPENED = 16,         /* event without ( */
+    LULZHEMOR_EVENT_UNCLOSED = 17,         /* event without ) */
+    LULZHEMOR_EVENT_OUT_OF_ORDER = 18,     /* the last ) stands before the first ( */
+    LULZHEMOR_NO_ACTION = 19,              /* head without quoted id */
+    LULZHEMOR_ACTION_UNTERMINATED = 20,    /* the head's id is unterminated */
+    LULZHEMOR_NO_KIND = 21,                /* head without ::kind */
+    LULZHEMOR_ARGUMENT_WITHOUT_COLON = 22, /* argument without : */
+    LULZHEMOR_DUPLICATE_ARGUMENT = 23,     /* an argument group has a field twice */
+    LULZHEMOR_VALUE_TOO_DEEP = 24,         /* a value is deeper than 128 */
+    LULZHEMOR_FIELD_WITHOUT_COLON = 25,    /* record field without : */
+    LULZHEMOR_DUPLICATE_FIELD = 26,        /* a record has a field twice */
+    LULZHEMOR_ENTRY_WITHOUT_RECORD = 27,   /* entities entry without { */
+    LULZHEMOR_ENTRY_WITHOUT_COLON = 28,    /* no : before an entry's { */
+    LULZHEMOR_ENTRY_UNTERMINATED = 29,     /* an entry's { is unterminated */
+    LULZHEMOR_TEXT_AFTER_RECORD = 30,      /* text after an entry's record that does not begin with `in` */
+    LULZHEMOR_PARENTS_NOT_BRACKETED = 31,  /* parents not in brackets */
+    LULZHEMOR_PARENT_NO_ENTITY = 32,       /* a parent is no entity */
+    LULZHEMOR_KEY_NO_ENTITY = 33,          /* an entry's key is no entity */
+    LULZHEMOR_DUPLICATE_KEY = 34,          /* two entries have one key */
+    LULZHEMOR_ENTRY_NOT_A_RECORD = 35      /* an entry's value is no record */
+};
+
+/* ---- The pack ----
+ * An event as nodes, each a kind and a number, in this order: time, principal, resource, namespace (an array of texts), action, kind,
+ * logged, context (records), entities (a record whose fields are stored key, record, array of parents). */
+
+enum lulzhemor_kind {
+    LULZHEMOR_ABSENT = 0,  /* no principal, or no resource; number 0 */
+    LULZHEMOR_NULL = 1,    /* number 0, as in the next two */
+    LULZHEMOR_FALSE = 2,
+    LULZHEMOR_TRUE = 3,
+    LULZHEMOR_INTEGER = 4, /* the number as two's complement */
+    LULZHEMOR_DECIMAL = 5, /* a text: its start times 2^32, plus its length */
+    LULZHEMOR_STRING = 6,  /* a text */
+    LULZHEMOR_ENTITY = 7,  /* number 0; two texts follow, type and decoded id */
+    LULZHEMOR_ARRAY = 8,   /* how many items follow */
+    LULZHEMOR_RECORD = 9,  /* how many fields follow, each a text and a value */
+    LULZHEMOR_TEXT = 10    /* a text: a name, a type, an id, a part of the namespace, an action, a kind, a stored key */
+};
+
+/* Where the text of a node of kind 5, 6 or 10 stands in the text table. */
+static inline uint32_t lulzhemor_text_start(uint64_t number) { return (uint32_t)(number >> 32); }
+static inline uint32_t lulzhemor_text_length(uint64_t number) { return (uint32_t)number; }
+
+/* ---- Functions ----
+ * Where tables are lent, refusal 1 changes none of them. After lulzhemor_read_line has read an event they hold its pack, and zeros up to their
+ * bounds; after any other answer, zeros up to their bounds. What lies past the bounds never changes. A refusal never changes an output. */
+
+/* Is the text UTF-8? */
+bool lulzhemor_is_utf8(const uint8_t *text, size_t text_len);
+
+/* Judges a log: its count of events, or the first refusal with its line. */
+uint64_t lulzhemor_judge(uint8_t *kinds, size_t kinds_len, uint64_t *numbers, size_t numbers_len, uint8_t *texts, size_t texts_len,
+                         const uint8_t *log, size_t log_len);
+
+/* Reads one line into a pack: its sizes (lulzhemor_pack_nodes, lulzhemor_pack_texts), 0 where the line is blank, or a refusal. A line feed
+ * inside is whitespace. */
+uint64_t lulzhemor_read_line(uint8_t *kinds, size_t kinds_len, uint64_t *numbers, size_t numbers_len, uint8_t *texts, size_t texts_len,
+                             const uint8_t *line, size_t line_len);
+
+/* Writes the night listing of one line's event, which has this number: its bytes, 0 where the line is blank, or a refusal. */
+uint64_t lulzhemor_list_line(uint8_t *kinds, size_t kinds_len, uint64_t *numbers, size_t numbers_len, uint8_t *texts, size_t texts_len,
+                             uint8_t *out, size_t out_len, const uint8_t *line, size_t line_len, uint64_t number);
+
+/* Writes the places of the commas that cut a body, ascending: how many, or a refusal. */
+uint64_t lulzhemor_cut_body(uint64_t *out, size_t out_len, const uint8_t *body, size_t body_len);
+
+/* Writes what an escaped text stands for: its bytes, or a refusal. */
+uint64_t lulzhemor_decode(uint8_t *out, size_t out_len, const uint8_t *text, size_t text_len);
+
+/* Writes the stored key of a type text and a decoded id: its bytes, or a refusal. Two keys are equal exactly when types and ids are. */
+uint64_t lulzhemor_spell_key(uint8_t *out, size_t out_len, const uint8_t *type, size_t type_len, const uint8_t *id, size_t id_len);
+
+#ifdef __cplusplus
+}
+#endif
+
+#endif

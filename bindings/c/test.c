@@ -1,0 +1,164 @@
+/* Calls every function of lulzhemor.h and compares answers, tables and outputs with what is known of them. Its last line is `ok`. */
+#include "lulzhemor.h"
+
+#include <stdio.h>
+#include <stdlib.h>
+#include <string.h>
+
+/* Behind the bounds stands one entry more, which no call may change. */
+static uint8_t kinds[LULZHEMOR_NODES + 1];
+static uint64_t numbers[LULZHEMOR_NODES + 1];
+static uint8_t texts[LULZHEMOR_TEXTS + 1];
+static uint8_t out[4096];
+static unsigned checks;
+
+#define CHECK(fact)                                                           \
+    do {                                                                      \
+        checks += 1;                                                          \
+        if (!(fact)) {                                                        \
+            fprintf(stderr, "%s:%d: not so: %s\n", __FILE__, __LINE__, #fact); \
+            exit(1);                                                          \
+        }                                                                     \
+    } while (0)
+
+#define BYTES(text) (const uint8_t *)(text), strlen(text)
+#define TABLES kinds, sizeof kinds, numbers, LULZHEMOR_NODES + 1, texts, sizeof texts
+
+static const char EVENT[] =
+    "@40 scope(principal: Planner::\"night\") entities(Cell::\"K'7\": {dug: true}) "
+    "Dig::Action::\"release\"::request(cell: Cell::\"K\\'7\", depth: 12.50, left: -2)";
+
+static const char LISTING[] =
+    "event 3 at 40\n"
+    "principal e\"Planner\" \"night\"\n"
+    "name \"Dig\" \"Action\"\n"
+    "action \"release\"\n"
+    "kind \"request\"\n"
+    "logged {\"cell\":e\"Cell\" \"K\\'7\",\"depth\":d\"12.50\",\"left\":i-2}\n"
+    "context {}\n"
+    "entity Cell::\"K\\'7\" {\"dug\":true} []\n";
+
+static void fill(void) {
+    memset(kinds, 77, sizeof kinds);
+    memset(texts, 77, sizeof texts);
+    memset(out, 77, sizeof out);
+    for (size_t i = 0; i <= LULZHEMOR_NODES; i++) numbers[i] = 77;
+}
+
+/* The tables hold so many nodes and text bytes, zeros behind, and what stood past their bounds. */
+static bool used(size_t nodes, size_t bytes) {
+    for (size_t i = nodes; i < LULZHEMOR_NODES; i++)
+        if (kinds[i] != 0 || numbers[i] != 0) return false;
+    for (size_t i = bytes; i < LULZHEMOR_TEXTS; i++)
+        if (texts[i] != 0) return false;
+    return kinds[LULZHEMOR_NODES] == 77 && numbers[LULZHEMOR_NODES] == 77 && texts[LULZHEMOR_TEXTS] == 77;
+}
+
+static bool untouched(void) {
+    for (size_t i = 0; i <= LULZHEMOR_NODES; i++)
+        if (kinds[i] != 77 || numbers[i] != 77) return false;
+    for (size_t i = 0; i <= LULZHEMOR_TEXTS; i++)
+        if (texts[i] != 77) return false;
+    return true;
+}
+
+/* The output begins with the text, and what stands behind is as it was. */
+static bool wrote(const char *text) {
+    size_t n = strlen(text);
+    for (size_t i = n; i < sizeof out; i++)
+        if (out[i] != 77) return false;
+    return memcmp(out, text, n) == 0;
+}
+
+static bool node(size_t at, uint8_t kind, uint64_t number) { return kinds[at] == kind && numbers[at] == number; }
+
+static bool text_node(size_t at, uint8_t kind, const char *text) {
+    uint32_t start = lulzhemor_text_start(numbers[at]), length = lulzhemor_text_length(numbers[at]);
+    return kinds[at] == kind && length == strlen(text) && memcmp(texts + start, text, length) == 0;
+}
+
+static void judging(void) {
+    fill();
+    CHECK(lulzhemor_judge(TABLES, BYTES("@1 A::\"b\"::c()\n\n@2 A::\"b\"::c()\n")) == 2);
+    CHECK(used(0, 0));
+    fill();
+    uint64_t r = lulzhemor_judge(TABLES, BYTES("@1 A::\"b\"::c()\n\n@0 )("));
+    CHECK(lulzhemor_refused(r) && lulzhemor_refusal(r) == LULZHEMOR_EVENT_OUT_OF_ORDER && lulzhemor_refusal_line(r) == 3);
+    CHECK(used(0, 0));
+    r = lulzhemor_judge(TABLES, BYTES("\xff"));
+    CHECK(lulzhemor_refused(r) && lulzhemor_refusal(r) == LULZHEMOR_NOT_UTF8 && lulzhemor_refusal_line(r) == 0);
+    static uint8_t long_log[LULZHEMOR_TEXT_LIMIT + 1];
+    memset(long_log, '\n', sizeof long_log);
+    CHECK(lulzhemor_judge(TABLES, long_log, LULZHEMOR_TEXT_LIMIT) == 0);
+    CHECK(lulzhemor_judge(TABLES, long_log, sizeof long_log) == LULZHEMOR_REFUSED + LULZHEMOR_TEXT_TOO_LONG);
+    long_log[LULZHEMOR_TEXT_LIMIT - 1] = 'x';
+    r = lulzhemor_judge(TABLES, long_log, LULZHEMOR_TEXT_LIMIT);
+    CHECK(lulzhemor_refusal(r) == LULZHEMOR_NO_AT && lulzhemor_refusal_line(r) == LULZHEMOR_TEXT_LIMIT);
+    fill();
+    r = lulzhemor_judge(kinds, LULZHEMOR_NODES - 1, numbers, LULZHEMOR_NODES, texts, LULZHEMOR_TEXTS, BYTES("@0 )("));
+    CHECK(r == LULZHEMOR_REFUSED + LULZHEMOR_TABLE_TOO_SHORT && untouched());
+}
+
+static void reading(void) {
+    fill();
+    uint64_t r = lulzhemor_read_line(TABLES, BYTES(EVENT));
+    CHECK(!lulzhemor_refused(r) && lulzhemor_pack_nodes(r) == 26 && lulzhemor_pack_texts(r) == 75);
+    CHECK(used(26, 75));
+    CHECK(node(0, LULZHEMOR_INTEGER, 40) && node(1, LULZHEMOR_ENTITY, 0));
+    CHECK(text_node(2, LULZHEMOR_TEXT, "Planner") && text_node(3, LULZHEMOR_TEXT, "night") && node(4, LULZHEMOR_ABSENT, 0));
+    CHECK(node(5, LULZHEMOR_ARRAY, 2) && text_node(6, LULZHEMOR_TEXT, "Dig") && text_node(7, LULZHEMOR_TEXT, "Action"));
+    CHECK(text_node(8, LULZHEMOR_TEXT, "release") && text_node(9, LULZHEMOR_TEXT, "request"));
+    CHECK(node(10, LULZHEMOR_RECORD, 3) && text_node(11, LULZHEMOR_TEXT, "cell") && node(12, LULZHEMOR_ENTITY, 0));
+    CHECK(text_node(13, LULZHEMOR_TEXT, "Cell") && text_node(14, LULZHEMOR_TEXT, "K'7"));
+    CHECK(text_node(15, LULZHEMOR_TEXT, "depth") && text_node(16, LULZHEMOR_DECIMAL, "12.50"));
+    CHECK(text_node(17, LULZHEMOR_TEXT, "left") && node(18, LULZHEMOR_INTEGER, (uint64_t)-2));
+    CHECK(node(19, LULZHEMOR_RECORD, 0) && node(20, LULZHEMOR_RECORD, 1) && text_node(21, LULZHEMOR_TEXT, "Cell::\"K\\'7\""));
+    CHECK(node(22, LULZHEMOR_RECORD, 1) && text_node(23, LULZHEMOR_TEXT, "dug") && node(24, LULZHEMOR_TRUE, 0));
+    CHECK(node(25, LULZHEMOR_ARRAY, 0));
+    fill();
+    CHECK(lulzhemor_read_line(TABLES, BYTES(" \r\n")) == 0 && used(0, 0));
+    CHECK(lulzhemor_read_line(TABLES, BYTES("@0 )(")) == LULZHEMOR_REFUSED + LULZHEMOR_EVENT_OUT_OF_ORDER);
+    fill();
+    r = lulzhemor_read_line(kinds, sizeof kinds, numbers, LULZHEMOR_NODES - 1, texts, sizeof texts, BYTES(EVENT));
+    CHECK(r == LULZHEMOR_REFUSED + LULZHEMOR_TABLE_TOO_SHORT && untouched());
+}
+
+static void listing(void) {
+    fill();
+    CHECK(lulzhemor_list_line(TABLES, out, sizeof out, BYTES(EVENT), 3) == strlen(LISTING));
+    CHECK(wrote(LISTING) && used(0, 0));
+    fill();
+    CHECK(lulzhemor_list_line(TABLES, out, strlen(LISTING), BYTES(EVENT), 3) == strlen(LISTING) && wrote(LISTING));
+    fill();
+    uint64_t r = lulzhemor_list_line(TABLES, out, strlen(LISTING) - 1, BYTES(EVENT), 3);
+    CHECK(r == LULZHEMOR_REFUSED + LULZHEMOR_OUTPUT_TOO_SHORT && wrote("") && used(0, 0));
+    CHECK(lulzhemor_list_line(TABLES, out, sizeof out, BYTES("\t"), 3) == 0 && wrote(""));
+    fill();
+    r = lulzhemor_list_line(kinds, sizeof kinds, numbers, LULZHEMOR_NODES, texts, LULZHEMOR_TEXTS - 1, out, sizeof out, BYTES(EVENT), 3);
+    CHECK(r == LULZHEMOR_REFUSED + LULZHEMOR_TABLE_TOO_SHORT && untouched() && wrote(""));
+}
+
+static void texts_alone(void) {
+    CHECK(lulzhemor_is_utf8(BYTES("K\xc3\xa9")) && !lulzhemor_is_utf8(BYTES("K\xc3")));
+    uint64_t places[3] = {77, 77, 77};
+    CHECK(lulzhemor_cut_body(places, 3, BYTES("a,(b,c),\"d,e\"")) == 2);
+    CHECK(places[0] == 1 && places[1] == 7 && places[2] == 77);
+    CHECK(lulzhemor_cut_body(places, 0, BYTES("a,b")) == LULZHEMOR_REFUSED + LULZHEMOR_OUTPUT_TOO_SHORT);
+    fill();
+    CHECK(lulzhemor_decode(out, sizeof out, BYTES("\\u{4_1}\\x4\\u{_41}")) == 9 && wrote("A\x04\\u{_41}"));
+    fill();
+    CHECK(lulzhemor_decode(out, 1, BYTES("ab")) == LULZHEMOR_REFUSED + LULZHEMOR_OUTPUT_TOO_SHORT && wrote(""));
+    CHECK(lulzhemor_spell_key(out, sizeof out, BYTES("Cell"), BYTES("K'7")) == 12 && wrote("Cell::\"K\\'7\""));
+    static uint8_t long_id[LULZHEMOR_LINE_LIMIT + 1];
+    memset(long_id, 'a', sizeof long_id);
+    CHECK(lulzhemor_spell_key(out, sizeof out, BYTES("Cell"), long_id, sizeof long_id) == LULZHEMOR_REFUSED + LULZHEMOR_LINE_TOO_LONG);
+}
+
+int main(void) {
+    judging();
+    reading();
+    listing();
+    texts_alone();
+    printf("%u checks\nok\n", checks);
+    return 0;
+}
