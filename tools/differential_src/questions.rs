@@ -52,7 +52,27 @@ pub fn about<'a>(random: &mut Random, log: &'a [u8]) -> Vec<Question<'a>> {
         let ty = if ask == Ask::Key { drawn(random, log) } else { b"" };
         out.push(Question { ty, ..question(random, ask, text) });
     }
+    // Judging drops U+FEFF, reading a line does not.
+    if let Some(line) = lines[0].strip_prefix("\u{feff}".as_bytes()) {
+        out.push(question(random, Ask::Read, line));
+        out.push(question(random, Ask::List(1), line));
+    }
+    let again: Vec<Question> =
+        out.iter().filter(|question| is_short(question)).map(fitting).collect();
+    out.extend(again);
     out
+}
+
+/// Is a table or the output too short for the answer?
+fn is_short(question: &Question) -> bool {
+    let tables = !matches!(question.lent, Lent::Longer | Lent::Exact);
+    let has_output = !matches!(question.ask, Ask::Judge | Ask::Read);
+    tables && question.ask.has_tables() || has_output && question.slack < 0
+}
+
+/// The same, with all that the answer needs.
+fn fitting<'a>(question: &Question<'a>) -> Question<'a> {
+    Question { lent: Lent::Exact, slack: 0, ..*question }
 }
 
 /// A part of the log: all of it, between two quotes or brackets, of a length at the limit, or any.
