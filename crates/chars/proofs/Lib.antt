@@ -4,4 +4,5 @@ pub mod Boundary
 pub mod Trimming
 pub mod Ending
 pub mod Runs
+pub mod Spacing
 pub mod Examples

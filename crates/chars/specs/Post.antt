@@ -27,3 +27,7 @@ EndsAt s n = (0 < n) × (n ≤ length s) × (whiteAt (drop (length s - n) s) ≡
 pub record EndsIn (s : List ℕ) (n : ℕ) : Type 0 where
   pub some : 0 < n → EndsAt s n
   pub none : n ≡ 0 → (m : ℕ) → EndsAt s m → ⊥
+
+-- the first n bytes are spaces
+abbrev pub Spaces : List ℕ → ℕ → Type 0
+Spaces s n = (i : ℕ) → i < n → getD s i 0 ≡ 32

@@ -1,11 +1,12 @@
 // Characters: UTF-8, White_Space, and a text trimmed at both ends.
 // Every function answers on every input; bytes that are no character are `Bad`, and are never White_Space.
 ghost use mathlib.Core.Path.{_≡_};
+ghost use mathlib.Core.Bool.{true};
 ghost use Prim.Native.Nat.{ℕ, _+_, _-_, _≤_, _<_};
 ghost use lib.ListN.{length, getD, drop};
 ghost use Rattle.chars.specs.Utf8.{low as lowOf, high as highOf, charOf, charAt, utf8};
 ghost use Rattle.chars.specs.White.{within, white, wideWhite, whiteAt, trimStart, trimEnd, trim as trimmed, blank};
-ghost use Rattle.chars.specs.Post.{Plain, Advances, EndsIn};
+ghost use Rattle.chars.specs.Post.{Plain, Advances, EndsIn, Spaces};
 
 // What a text begins with.
 pub enum Step {
@@ -285,7 +286,18 @@ fn is_wide_white(c: u32) -> bool
     c == 0x3000
 }
 
-// How many bytes the White_Space character takes that the text begins with; 0 where it begins with none. ASCII is decided in place.
+// Is b ASCII and past the space? No White_Space character begins or ends with such a byte.
+fn is_past_space(b: u8) -> bool
+    ensures { λ r. ⌜ (r ≡ true → (32 < b) × (b < 128)) ⌝ }
+{
+    if b <= b' ' {
+        return false;
+    }
+    b < 0x80
+}
+
+// How many bytes the White_Space character takes that the text begins with; 0 where it begins with none. A space, and
+// what comes behind it in ASCII, is decided in place.
 pub fn white_width(s: &[u8]) -> usize
     ensures { λ r. ⌜ r ≡ whiteAt (now (s .entry)) ⌝ }
     ensures { λ r. ⌜ r ≤ length (now (s .entry)) ⌝ }
@@ -294,11 +306,11 @@ pub fn white_width(s: &[u8]) -> usize
         return 0;
     }
     let first = s[0];
-    if first < 0x80 {
-        if is_white(first as u32) {
-            return 1;
-        }
+    if is_past_space(first) {
         return 0;
+    }
+    if first == b' ' {
+        return 1;
     }
     wide_width(s)
 }
@@ -347,24 +359,103 @@ fn wide_end(s: &[u8]) -> usize
         return 0;
     }
     let second = n - 2;
-    if white_width(&s[second..]) == 2 {
+    if wide_width(&s[second..]) == 2 {
         return 2;
     }
     if n < 3 {
         return 0;
     }
     let third = n - 3;
-    if white_width(&s[third..]) == 3 {
+    if wide_width(&s[third..]) == 3 {
         return 3;
     }
     0
 }
 
-// Without the White_Space at the start.
-pub fn trim_start(s: &[u8]) -> &[u8]
+// Does s begin with a byte past the space?
+fn begins_past_space(s: &[u8]) -> bool
+    ensures { λ r. ⌜ (r ≡ true → whiteAt (now (s .entry)) ≡ 0) ⌝ }
+{
+    if s.len() == 0 {
+        return false;
+    }
+    is_past_space(s[0])
+}
+
+// Does s end with one?
+fn ends_past_space(s: &[u8]) -> bool
+    ensures { λ r. ⌜ (r ≡ true → EndsIn (now (s .entry)) 0) ⌝ }
+{
+    let n = s.len();
+    if n == 0 {
+        return false;
+    }
+    is_past_space(s[n - 1])
+}
+
+// Does s begin with one space and a byte past it?
+fn begins_with_one(s: &[u8]) -> bool
+    ensures { λ r. ⌜ (r ≡ true → (1 ≤ length (now (s .entry))) × (trimStart (now (s .entry)) ≡ drop 1 (now (s .entry)))) ⌝ }
+{
+    if s.len() < 2 {
+        return false;
+    }
+    if s[0] != b' ' {
+        return false;
+    }
+    is_past_space(s[1])
+}
+
+// Is there anything but spaces among these bytes? 0 where not. Every byte is looked at, so that the compiler takes many at a time.
+fn others_in(s: &[u8]) -> u8
+    ensures { λ r. ⌜ (r ≡ 0 → Spaces (now (s .entry)) (length (now (s .entry)))) ⌝ }
+{
+    let mut others: u8 = 0;
+    let mut i: usize = 0;
+    while i < s.len() {
+        if s[i] != b' ' {
+            others = 1;
+        }
+        i += 1;
+    }
+    others
+}
+
+// Past the blocks of 16 spaces at the start.
+fn spaces_blocks(s: &[u8]) -> usize
+    ensures { λ r. ⌜ Spaces (now (s .entry)) r × (r ≤ length (now (s .entry))) ⌝ }
+{
+    let mut i: usize = 0;
+    while 16 <= s.len() - i {
+        let end = i + 16;
+        if others_in(&s[i..end]) != 0 {
+            return i;
+        }
+        i = end;
+    }
+    i
+}
+
+// Past the spaces at the start.
+fn spaces_end(s: &[u8]) -> usize
+    ensures { λ r. ⌜ Spaces (now (s .entry)) r × (r ≤ length (now (s .entry))) ⌝ }
+{
+    let mut i = spaces_blocks(s);
+    while i < s.len() {
+        if s[i] != b' ' {
+            return i;
+        }
+        i += 1;
+    }
+    i
+}
+
+// Without the White_Space at the start, character by character behind the spaces.
+fn strip_start(s: &[u8]) -> &[u8]
     ensures { λ r. ⌜ now r ≡ trimStart (now (s .entry)) ⌝ }
 {
-    let mut t = s;
+    let at = spaces_end(s);
+    let mut t = &s[at..];
     loop {
         let n = white_width(t);
         if n == 0 {
@@ -374,8 +465,8 @@ pub fn trim_start(s: &[u8]) -> &[u8]
     }
 }
 
-// Without the White_Space at the end.
-pub fn trim_end(s: &[u8]) -> &[u8]
+// Without the White_Space at the end, character by character.
+fn strip_end(s: &[u8]) -> &[u8]
     ensures { λ r. ⌜ now r ≡ trimEnd (now (s .entry)) ⌝ }
 {
     let mut t = s;
@@ -389,17 +480,58 @@ pub fn trim_end(s: &[u8]) -> &[u8]
     }
 }
 
+// Without the White_Space at both ends.
+fn strip(s: &[u8]) -> &[u8]
+    ensures { λ r. ⌜ now r ≡ trimmed (now (s .entry)) ⌝ }
+{
+    strip_end(strip_start(s))
+}
+
+// Without the White_Space at the start. Most texts begin with none, or with one space: these are answered in place.
+pub fn trim_start(s: &[u8]) -> &[u8]
+    ensures { λ r. ⌜ now r ≡ trimStart (now (s .entry)) ⌝ }
+{
+    if begins_past_space(s) {
+        return s;
+    }
+    if begins_with_one(s) {
+        return &s[1..];
+    }
+    strip_start(s)
+}
+
+// Without the White_Space at the end.
+pub fn trim_end(s: &[u8]) -> &[u8]
+    ensures { λ r. ⌜ now r ≡ trimEnd (now (s .entry)) ⌝ }
+{
+    if ends_past_space(s) {
+        return s;
+    }
+    strip_end(s)
+}
+
 // Without the White_Space at both ends: `str::trim`.
 pub fn trim(s: &[u8]) -> &[u8]
     ensures { λ r. ⌜ now r ≡ trimmed (now (s .entry)) ⌝ }
 {
-    trim_end(trim_start(s))
+    if begins_past_space(s) {
+        if ends_past_space(s) {
+            return s;
+        }
+    }
+    strip(s)
 }
 
 // Is there nothing but White_Space?
 pub fn is_blank(s: &[u8]) -> bool
     ensures { λ r. ⌜ r ≡ blank (now (s .entry)) ⌝ }
 {
-    let t = trim_start(s);
+    if s.len() == 0 {
+        return true;
+    }
+    if is_past_space(s[0]) {
+        return false;
+    }
+    let t = strip(s);
     t.len() == 0
 }

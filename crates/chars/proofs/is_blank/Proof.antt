@@ -1,14 +1,16 @@
--- `chars::is_blank` meets its contract: nothing is left of the text.
+-- `chars::is_blank` meets its contract: a text that begins past the space is not blank; of others nothing is left.
 -- Assumes nothing.
-use mathlib.Core.Path.{_≡_, refl, ap, _∙_}
+use mathlib.Core.Path.{_≡_, refl, sym, ap, _∙_}
 use mathlib.Core.List.{List, [], _∷_}
-use Prim.Native.Nat.{ℕ}
+use Prim.Native.Nat.{ℕ, _<_}
 use lib.Dec.{eqb}
 use lib.ListN.{length}
+use denote.Ref.{now}
 use borrow.Author.Needs.{needs}
 use borrow.Author.Tests.{ne-eqb}
 use native.Mathlib.Omega.{arith}
-use Rattle.chars.specs.White.{empty}
+use Rattle.chars.specs.White.{empty, trim, blank}
+use Rattle.chars.proofs.Spacing.{begins-past, past-not-blank, none-blank, trim-blank}
 use Rattle.chars.proofs.is_blank.Statement.{statement}
 use Rattle.chars.proofs.is_blank.Tie as tie
 
@@ -16,11 +18,35 @@ none-left : (t : List ℕ) → eqb (length t) 0 ≡ empty t
 none-left [] = refl
 none-left (a ∷ r) = ne-eqb (length (a ∷ r)) 0 (λ (e : length (a ∷ r) ≡ 0). omega arith)
 
-trim-start-requires : tie.Need-trim-start-requires
-trim-start-requires c κs = search needs
-
 returns : tie.Need-returns
-returns c = none-left (c .trim-start .result .now) ∙ ap empty (c .trim-start .ensures)
+returns c = sym (none-blank (now (c .before .before .args .s)) (c .if1 .taken))
+
+shared-slice-read-is-past-space : tie.Need-shared-slice-read-is-past-space
+shared-slice-read-is-past-space c = search needs
+
+is-past-space-requires : tie.Need-is-past-space-requires
+is-past-space-requires c κs = search needs
+
+returns-2 : tie.Need-returns-2
+returns-2 c =
+    let s = now (c .before .before .before .before .before .args .s) in
+    let h = c .before .is-past-space .ensures (c .if2 .taken) in
+    let some : 0 < length s = omega (arith, c .before .before .before .if1 .left) in
+    sym (past-not-blank s some (begins-past s some (h .0) (h .1)))
+
+strip-requires : tie.Need-strip-requires
+strip-requires c κs = search needs
+
+returns-3 : tie.Need-returns-3
+returns-3 c = none-left (c .strip .result .now) ∙ ap empty (c .strip .ensures) ∙ trim-blank _
 
 pub is-blank-spec : {M : Type 1} → statement M
-is-blank-spec = tie.close (tie.spec trim-start-requires returns)
+is-blank-spec =
+    tie.close
+    (tie.spec
+    returns
+    shared-slice-read-is-past-space
+    is-past-space-requires
+    returns-2
+    strip-requires
+    returns-3)

@@ -1,78 +1,23 @@
--- `chars::trim_end` meets its contract. The loop's invariant: the text without its last characters gives the same when trimmed.
+-- `chars::trim_end` meets its contract: a text that ends past the space stays.
 -- Assumes nothing.
-use mathlib.Core.Path.{_≡_, refl, sym, ap, _∙_}
-use mathlib.Core.List.{List}
-use Prim.Native.Nat.{ℕ, _-_, _≤_, _<_}
-use native.Mathlib.Omega.{arith}
-use lib.ListN.{length, take, drop, length-drop, take-append-drop}
-use lib.Seq.{length-take-le}
-use Rattle.chars.specs.White.{trimEnd}
-use Rattle.chars.specs.Post.{EndsAt, EndsIn}
-use Rattle.chars.proofs.Trimming.{trim-end-stays, trim-end-white}
+use mathlib.Core.Path.{refl, sym}
+use denote.Ref.{now}
+use borrow.Author.Needs.{needs}
+use Rattle.chars.proofs.Trimming.{trim-end-stays}
 use Rattle.chars.proofs.trim_end.Statement.{statement}
 use Rattle.chars.proofs.trim_end.Tie as tie
 
-abbrev Inv-loop : tie.InvT-loop
-Inv-loop s t₀ t = trimEnd s ≡ trimEnd t
+ends-past-space-requires : tie.Need-ends-past-space-requires
+ends-past-space-requires c κs = search needs
 
-abbrev μ-loop : tie.MeasureT-loop
-μ-loop s t₀ t = length t
+returns : tie.Need-returns
+returns c = sym (trim-end-stays (now (c .before .before .before .args .s)) (c .before .ends-past-space .ensures (c .if1 .taken) .none refl))
 
-module _ (t : List ℕ) (n : ℕ) (e : EndsIn t n) (p : n ≡ 0 → ⊥) where
-  ends : EndsAt t n
-  ends = e .some (omega arith)
+strip-end-requires : tie.Need-strip-end-requires
+strip-end-requires c κs = search needs
 
-  inside : n ≤ length t
-  inside = ends .1
-
-  -- the last character is taken off
-  onward : trimEnd t ≡ trimEnd (take (length t - n) t)
-  onward =
-      let l : length (drop (length t - n) t) ≡ n = omega (arith, length-drop (length t - n) t, inside) in
-      sym (ap trimEnd (take-append-drop (length t - n) t))
-      ∙ trim-end-white (take (length t - n) t) (drop (length t - n) t) (ends .2 ∙ sym l) (omega (arith, ends .0))
-
-  shorter : length (take (length t - n) t) < length t
-  shorter = omega (arith, length-take-le (length t - n) t (omega arith), ends .0, inside)
-
-loop-holds : tie.Need-loop-holds Inv-loop μ-loop
-loop-holds c = refl
-
-white-end-requires : tie.Need-white-end-requires Inv-loop μ-loop
-white-end-requires c κs = tt
-
-returns : tie.Need-returns Inv-loop μ-loop
-returns c =
-    let t = c .before .before .loop .t .now in
-    sym (c .before .before .loop .inv ∙ trim-end-stays t (c .before .white-end .ensures .none (c .if1 .taken)))
-
-sub-end : tie.Need-sub-end Inv-loop μ-loop
-sub-end c = omega (arith, inside (c .before .before .loop .t .now) (c .before .white-end .result) (c .before .white-end .ensures) (c .if1 .left))
-
-slice-aggregate-t : tie.Need-slice-aggregate-t Inv-loop μ-loop
-slice-aggregate-t c =
-    let t = c .before .before .before .loop .t .now in
-    sym (length-take-le (length t - c .before .before .white-end .result) t (omega arith))
-
-loop-less : tie.Need-loop-less Inv-loop μ-loop
-loop-less c =
-    shorter (c .before .before .before .loop .t .now) (c .before .before .white-end .result) (c .before .before .white-end .ensures) (c .before .if1 .left)
-
-loop-again : tie.Need-loop-again Inv-loop μ-loop
-loop-again c =
-    c .before .before .before .loop .inv
-    ∙ onward (c .before .before .before .loop .t .now) (c .before .before .white-end .result) (c .before .before .white-end .ensures) (c .before .if1 .left)
+returns-2 : tie.Need-returns-2
+returns-2 c = search needs
 
 pub trim-end-spec : {M : Type 1} → statement M
-trim-end-spec =
-    tie.close
-    (tie.spec
-    Inv-loop
-    μ-loop
-    loop-holds
-    white-end-requires
-    returns
-    sub-end
-    slice-aggregate-t
-    loop-less
-    loop-again)
+trim-end-spec = tie.close (tie.spec ends-past-space-requires returns strip-end-requires returns-2)

@@ -1,9 +1,10 @@
--- `chars::white_width` meets its contract: ASCII is decided by its byte.
+-- `chars::white_width` meets its contract: a space and what comes behind it in ASCII are decided by their byte.
 -- Assumes nothing.
-use mathlib.Core.Path.{refl, sym, _∙_}
+use mathlib.Core.Path.{sym}
 use denote.Ref.{now}
 use native.Mathlib.Omega.{arith}
-use Rattle.chars.proofs.Ending.{right, white-none, white-first}
+use Rattle.chars.proofs.Ending.{right, white-none}
+use Rattle.chars.proofs.Spacing.{begins-past, begins-space}
 use borrow.Author.Needs.{needs}
 use Rattle.chars.proofs.white_width.Statement.{statement}
 use Rattle.chars.proofs.white_width.Tie as tie
@@ -14,23 +15,25 @@ returns c = right (now (c .before .before .args .s)) 0 (sym (white-none (now (c 
 shared-slice-read-first : tie.Need-shared-slice-read-first
 shared-slice-read-first c = search needs
 
-cast-is-white : tie.Need-cast-is-white
-cast-is-white c = search needs
-
-is-white-requires : tie.Need-is-white-requires
-is-white-requires c κs = search needs
+is-past-space-requires : tie.Need-is-past-space-requires
+is-past-space-requires c κs = search needs
 
 returns-2 : tie.Need-returns-2
-returns-2 c = right (now (c .before .before .before .before .before .before .args .s)) 1 (sym (white-first (now (c .before .before .before .before .before .before .args .s)) (omega (arith, c .before .before .before .before .if1 .left)) (c .before .before .if2 .taken) ∙ rw (sym (c .before .is-white .ensures) ∙ c .if3 .taken) refl))
+returns-2 c =
+    let s = now (c .before .before .before .before .before .args .s) in
+    let h = c .before .is-past-space .ensures (c .if2 .taken) in
+    right s 0 (sym (begins-past s (omega (arith, c .before .before .before .if1 .left)) (h .0) (h .1)))
 
 returns-3 : tie.Need-returns-3
-returns-3 c = right (now (c .before .before .before .before .before .before .args .s)) 0 (sym (white-first (now (c .before .before .before .before .before .before .args .s)) (omega (arith, c .before .before .before .before .if1 .left)) (c .before .before .if2 .taken) ∙ rw (sym (c .before .is-white .ensures) ∙ c .if3 .left) refl))
+returns-3 c =
+    let s = now (c .before .before .before .before .before .before .args .s) in
+    right s 1 (sym (begins-space s (omega (arith, c .before .before .before .before .if1 .left)) (c .if3 .taken)))
 
 wide-width-requires : tie.Need-wide-width-requires
 wide-width-requires c κs = search needs
 
 returns-4 : tie.Need-returns-4
-returns-4 c = c .wide-width .ensures
+returns-4 c = search needs
 
 pub white-width-spec : {M : Type 1} → statement M
 white-width-spec =
@@ -38,8 +41,7 @@ white-width-spec =
     (tie.spec
     returns
     shared-slice-read-first
-    cast-is-white
-    is-white-requires
+    is-past-space-requires
     returns-2
     returns-3
     wide-width-requires
