@@ -96,16 +96,8 @@ pub white-first : (s : List ℕ) → 0 < length s → getD s 0 0 < 0x80 → whit
 white-first [] h i = absurd (omega arith)
 white-first (a ∷ r) h i = white-ascii a r i
 
--- a byte past ASCII is no character by itself
-alone-bad : (b : ℕ) → 0x80 ≤ b → charAt (b ∷ []) ≡ Bad
-unfolding charOf
-alone-bad b h =
-    let l : 0 < low b = omega (arith, low-128 b) in
-    rw (le-ltb b 0x80 h, lt-ltb 0 (low b) l)
-    (both-arms (λ (t : Step). t ≡ Bad) (ltb b 0xC2) refl (both-arms (λ (t : Step). t ≡ Bad) (ltb 0xF4 b) refl refl))
-
 -- the last byte, as a list
-last-one : (s : List ℕ) → 0 < length s → drop (length s - 1) s ≡ getD s (length s - 1) 0 ∷ []
+pub last-one : (s : List ℕ) → 0 < length s → drop (length s - 1) s ≡ getD s (length s - 1) 0 ∷ []
 last-one s h =
     let n : suc (length s - 1) ≡ length s = omega arith in
     drop-cons s (length s - 1) 0 (omega arith) ∙ ap (λ (k : ℕ). getD s (length s - 1) 0 ∷ drop k s) n ∙ ap (λ (l : List ℕ). getD s (length s - 1) 0 ∷ l) (drop-length s)
@@ -132,12 +124,6 @@ wide-last (a ∷ r) m e w h = go (charAt (a ∷ r)) refl w
     go Bad f w = absurd (omega arith)
 
 module _ (s : List ℕ) (some : 0 < length s) where
-  pub ends-ascii-white : getD s (length s - 1) 0 < 0x80 → white (getD s (length s - 1) 0) ≡ true → EndsIn s 1
-  ends-ascii-white h w = record {
-    some = λ _. (omega arith, omega arith, ap whiteAt (last-one s some) ∙ white-ascii (getD s (length s - 1) 0) [] h ∙ ap (λ (t : Bool). cond t 1 0) w);
-    none = λ e. absurd (omega arith);
-  }
-
   pub ends-ascii : getD s (length s - 1) 0 < 0x80 → white (getD s (length s - 1) 0) ≡ false → EndsIn s 0
   ends-ascii h w = record { some = λ l. absurd (omega arith); none = λ _ m e. never m e }
     where
@@ -161,18 +147,14 @@ module _ (s : List ℕ) (some : 0 < length s) where
   pub ends-wide : (m : ℕ) → 0 < m → m ≤ length s → whiteAt (drop (length s - m) s) ≡ m → EndsIn s m
   ends-wide m p l e = record { some = λ _. (p, l, e); none = λ z. absurd (omega arith) }
 
-  pub ends-none : 0x80 ≤ getD s (length s - 1) 0
+  pub ends-none : (whiteAt (drop (length s - 1) s) ≡ 1 → ⊥)
       → (2 ≤ length s → whiteAt (drop (length s - 2) s) ≡ 2 → ⊥)
       → (3 ≤ length s → whiteAt (drop (length s - 3) s) ≡ 3 → ⊥) → EndsIn s 0
-  unfolding whiteAt
-  ends-none h two three = record { some = λ l. absurd (omega arith); none = λ _ m e. never m e }
+  ends-none one two three = record { some = λ l. absurd (omega arith); none = λ _ m e. never m e }
     where
-      one : whiteAt (drop (length s - 1) s) ≡ 0
-      one = ap whiteAt (last-one s some) ∙ ap widthOf (alone-bad (getD s (length s - 1) 0) h)
-
       never : (m : ℕ) → EndsAt s m → ⊥
       never zero e = let p = e .0 in omega arith
-      never (suc zero) e = let p = e .2 in omega (arith, one)
+      never (suc zero) e = one (e .2)
       never (suc (suc zero)) e = two (e .1) (e .2)
       never (suc (suc (suc zero))) e = three (e .1) (e .2)
       never (suc (suc (suc (suc m)))) e = let p = e .2 in omega (arith, white-few (drop (length s - suc (suc (suc (suc m)))) s))

@@ -14,7 +14,7 @@ use borrow.Author.Tests.{le-leb, lt-leb, ne-eqb}
 use Rattle.chars.specs.White.{white, wideWhite, whiteAt, trimFrom, trimStart, empty, trimEnd, trim, blank}
 use Rattle.chars.specs.Post.{EndsIn, Spaces}
 use Rattle.chars.proofs.Trimming.{trim-start-stays, trim-start-white, start-clean}
-use Rattle.chars.proofs.Ending.{white-first, ends-ascii}
+use Rattle.chars.proofs.Ending.{white-first, white-ascii, last-one, ends-ascii, ends-wide}
 
 -- what comes behind the space in ASCII is no White_Space
 past-space : (a : ℕ) → 32 < a → a < 128 → white a ≡ false
@@ -53,6 +53,12 @@ module _ (s : List ℕ) (some : 0 < length s) where
 
   pub ends-past : 32 < getD s (length s - 1) 0 → getD s (length s - 1) 0 < 128 → EndsIn s 0
   ends-past h l = ends-ascii s some l (past-space (getD s (length s - 1) 0) h l)
+
+  pub ends-space : getD s (length s - 1) 0 ≡ 32 → EndsIn s 1
+  unfolding white wideWhite
+  ends-space e =
+      ends-wide s some 1 (omega arith) (omega arith)
+      (ap whiteAt (last-one s some) ∙ white-ascii (getD s (length s - 1) 0) [] (omega arith) ∙ ap (λ (a : ℕ). cond (white a) 1 0) e)
 
   pub begins-space : getD s 0 0 ≡ 32 → whiteAt s ≡ 1
   unfolding white wideWhite

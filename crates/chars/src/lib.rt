@@ -331,7 +331,8 @@ fn wide_width(s: &[u8]) -> usize
     }
 }
 
-// How many bytes the White_Space character takes that the text ends in; 0 where it ends in none. None takes more than three.
+// How many bytes the White_Space character takes that the text ends in; 0 where it ends in none. A space, and what comes behind it in
+// ASCII, is decided in place.
 fn white_end(s: &[u8]) -> usize
     ensures { λ r. ⌜ EndsIn (now (s .entry)) r ⌝ }
 {
@@ -340,21 +341,25 @@ fn white_end(s: &[u8]) -> usize
         return 0;
     }
     let last = s[n - 1];
-    if last < 0x80 {
-        if is_white(last as u32) {
-            return 1;
-        }
+    if is_past_space(last) {
         return 0;
+    }
+    if last == b' ' {
+        return 1;
     }
     wide_end(s)
 }
 
-// The same of a text whose last byte is not ASCII.
+// The same, by decoding the last bytes. None takes more than three.
 fn wide_end(s: &[u8]) -> usize
-    requires { ⌜ (1 ≤ length (now s)) × (128 ≤ getD (now s) (length (now s) - 1) 0) ⌝ }
+    requires { ⌜ 1 ≤ length (now s) ⌝ }
     ensures { λ r. ⌜ EndsIn (now (s .entry)) r ⌝ }
 {
     let n = s.len();
+    let first = n - 1;
+    if wide_width(&s[first..]) == 1 {
+        return 1;
+    }
     if n < 2 {
         return 0;
     }

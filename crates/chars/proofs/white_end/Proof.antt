@@ -1,9 +1,8 @@
--- `chars::white_end` meets its contract: the last byte alone where it is ASCII.
+-- `chars::white_end` meets its contract: a space and what comes behind it in ASCII are decided by the last byte.
 -- Assumes nothing.
-use mathlib.Core.Path.{sym, _∙_}
 use native.Mathlib.Omega.{arith}
 use denote.Ref.{now}
-use Rattle.chars.proofs.Ending.{ends-ascii-white, ends-ascii}
+use Rattle.chars.proofs.Spacing.{ends-past, ends-space}
 use borrow.Author.Needs.{needs}
 use Rattle.chars.proofs.white_end.Statement.{statement}
 use Rattle.chars.proofs.white_end.Tie as tie
@@ -14,23 +13,22 @@ returns c = record { some = λ l. absurd (omega arith); none = λ _ m e. let p =
 shared-slice-read-last : tie.Need-shared-slice-read-last
 shared-slice-read-last c = search needs
 
-cast-is-white : tie.Need-cast-is-white
-cast-is-white c = search needs
-
-is-white-requires : tie.Need-is-white-requires
-is-white-requires c κs = search needs
+is-past-space-requires : tie.Need-is-past-space-requires
+is-past-space-requires c κs = search needs
 
 returns-2 : tie.Need-returns-2
-returns-2 c = ends-ascii-white (now (c .before .before .before .before .before .before .args .s)) (c .before .before .before .before .if1 .left) (c .before .before .if2 .taken) (sym (c .before .is-white .ensures) ∙ c .if3 .taken)
+returns-2 c =
+    let h = c .before .is-past-space .ensures (c .if2 .taken) in
+    ends-past (now (c .before .before .before .before .before .args .s)) (c .before .before .before .if1 .left) (h .0) (h .1)
 
 returns-3 : tie.Need-returns-3
-returns-3 c = ends-ascii (now (c .before .before .before .before .before .before .args .s)) (c .before .before .before .before .if1 .left) (c .before .before .if2 .taken) (sym (c .before .is-white .ensures) ∙ c .if3 .left)
+returns-3 c = ends-space (now (c .before .before .before .before .before .before .args .s)) (c .before .before .before .before .if1 .left) (c .if3 .taken)
 
 wide-end-requires : tie.Need-wide-end-requires
-wide-end-requires c κs = (c .before .before .if1 .left, c .if2 .left)
+wide-end-requires c κs = search needs
 
 returns-4 : tie.Need-returns-4
-returns-4 c = c .wide-end .ensures
+returns-4 c = search needs
 
 pub white-end-spec : {M : Type 1} → statement M
 white-end-spec =
@@ -38,8 +36,7 @@ white-end-spec =
     (tie.spec
     returns
     shared-slice-read-last
-    cast-is-white
-    is-white-requires
+    is-past-space-requires
     returns-2
     returns-3
     wide-end-requires

@@ -1,4 +1,4 @@
--- `chars::wide_end` meets its contract: the last two bytes, then three.
+-- `chars::wide_end` meets its contract: the last byte, the last two, then three.
 -- Assumes nothing.
 use mathlib.Core.Path.{_≡_, sym, ap, _∙_}
 use mathlib.Core.List.{List}
@@ -17,8 +17,8 @@ use Rattle.chars.proofs.wide_end.Tie as tie
 of-last : (s : List ℕ) (n r : ℕ) → n ≤ length s → r ≡ whiteAt (take (length s - (length s - n)) (drop (length s - n) s)) → r ≡ whiteAt (drop (length s - n) s)
 of-last s n r h e = e ∙ ap whiteAt (take-rest (length s - n) s)
 
-returns : tie.Need-returns
-returns c = ends-none (now (c .before .before .args .s)) (c .before .before .pre .0) (c .before .before .pre .1) (λ l e. omega (arith, c .if1 .taken)) (λ l e. omega (arith, c .if1 .taken))
+sub-first : tie.Need-sub-first
+sub-first c = search needs
 
 sub-wide-width : tie.Need-sub-wide-width
 sub-wide-width c = search needs
@@ -32,17 +32,18 @@ part-wide-width-end c = search needs
 wide-width-requires : tie.Need-wide-width-requires
 wide-width-requires c κs = search needs
 
+returns : tie.Need-returns
+returns c =
+    let s = now (c .before .before .before .before .args .s) in
+    ends-wide s (c .before .before .before .before .pre) 1 (omega arith) (c .before .before .before .before .pre) (sym (of-last s 1 _ (c .before .before .before .before .pre) (c .before .wide-width .ensures .0)) ∙ c .if1 .taken)
+
 returns-2 : tie.Need-returns-2
 returns-2 c =
     let s = now (c .before .before .before .before .before .args .s) in
-    ends-wide s (c .before .before .before .before .before .pre .0) 2 (omega arith) (c .before .before .before .if1 .left) (sym (of-last s 2 _ (c .before .before .before .if1 .left) (c .before .wide-width .ensures .0)) ∙ c .if2 .taken)
-
-returns-3 : tie.Need-returns-3
-returns-3 c =
-    let s = now (c .before .before .before .before .before .before .args .s) in
-    ends-none s (c .before .before .before .before .before .before .pre .0) (c .before .before .before .before .before .before .pre .1)
-    (λ l e. c .before .if2 .left (of-last s 2 _ l (c .before .before .wide-width .ensures .0) ∙ e))
-    (λ l e. omega (arith, c .if3 .taken))
+    ends-none s (c .before .before .before .before .before .pre)
+    (λ e. c .before .if1 .left (of-last s 1 _ (c .before .before .before .before .before .pre) (c .before .before .wide-width .ensures .0) ∙ e))
+    (λ l e. omega (arith, c .if2 .taken))
+    (λ l e. omega (arith, c .if2 .taken))
 
 sub-wide-width-2 : tie.Need-sub-wide-width-2
 sub-wide-width-2 c = search needs
@@ -56,32 +57,64 @@ part-wide-width-end-2 c = search needs
 wide-width-requires-2 : tie.Need-wide-width-requires-2
 wide-width-requires-2 c κs = search needs
 
+returns-3 : tie.Need-returns-3
+returns-3 c =
+    let s = now (c .before .before .before .before .before .before .before .before .args .s) in
+    ends-wide s (c .before .before .before .before .before .before .before .before .pre) 2 (omega arith) (c .before .before .before .if2 .left) (sym (of-last s 2 _ (c .before .before .before .if2 .left) (c .before .wide-width2 .ensures .0)) ∙ c .if3 .taken)
+
 returns-4 : tie.Need-returns-4
 returns-4 c =
     let s = now (c .before .before .before .before .before .before .before .before .before .args .s) in
-    ends-wide s (c .before .before .before .before .before .before .before .before .before .pre .0) 3 (omega arith) (c .before .before .before .if3 .left) (sym (of-last s 3 _ (c .before .before .before .if3 .left) (c .before .wide-width2 .ensures .0)) ∙ c .if4 .taken)
+    ends-none s (c .before .before .before .before .before .before .before .before .before .pre)
+    (λ e. c .before .before .before .before .before .if1 .left (of-last s 1 _ (c .before .before .before .before .before .before .before .before .before .pre) (c .before .before .before .before .before .before .wide-width .ensures .0) ∙ e))
+    (λ l e. c .before .if3 .left (of-last s 2 _ l (c .before .before .wide-width2 .ensures .0) ∙ e))
+    (λ l e. omega (arith, c .if4 .taken))
+
+sub-wide-width-3 : tie.Need-sub-wide-width-3
+sub-wide-width-3 c = search needs
+
+part-wide-width-start-3 : tie.Need-part-wide-width-start-3
+part-wide-width-start-3 c = search needs
+
+part-wide-width-end-3 : tie.Need-part-wide-width-end-3
+part-wide-width-end-3 c = search needs
+
+wide-width-requires-3 : tie.Need-wide-width-requires-3
+wide-width-requires-3 c κs = search needs
 
 returns-5 : tie.Need-returns-5
 returns-5 c =
-    let s = now (c .before .before .before .before .before .before .before .before .before .args .s) in
-    ends-none s (c .before .before .before .before .before .before .before .before .before .pre .0) (c .before .before .before .before .before .before .before .before .before .pre .1)
-    (λ l e. c .before .before .before .before .if2 .left (of-last s 2 _ l (c .before .before .before .before .before .wide-width .ensures .0) ∙ e))
-    (λ l e. c .if4 .left (of-last s 3 _ l (c .before .wide-width2 .ensures .0) ∙ e))
+    let s = now (c .before .before .before .before .before .before .before .before .before .before .before .before .args .s) in
+    ends-wide s (c .before .before .before .before .before .before .before .before .before .before .before .before .pre) 3 (omega arith) (c .before .before .before .if4 .left) (sym (of-last s 3 _ (c .before .before .before .if4 .left) (c .before .wide-width3 .ensures .0)) ∙ c .if5 .taken)
+
+returns-6 : tie.Need-returns-6
+returns-6 c =
+    let s = now (c .before .before .before .before .before .before .before .before .before .before .before .before .args .s) in
+    ends-none s (c .before .before .before .before .before .before .before .before .before .before .before .before .pre)
+    (λ e. c .before .before .before .before .before .before .before .before .if1 .left (of-last s 1 _ (c .before .before .before .before .before .before .before .before .before .before .before .before .pre) (c .before .before .before .before .before .before .before .before .before .wide-width .ensures .0) ∙ e))
+    (λ l e. c .before .before .before .before .if3 .left (of-last s 2 _ l (c .before .before .before .before .before .wide-width2 .ensures .0) ∙ e))
+    (λ l e. c .if5 .left (of-last s 3 _ l (c .before .wide-width3 .ensures .0) ∙ e))
 
 pub wide-end-spec : {M : Type 1} → statement M
 wide-end-spec =
     tie.close
     (tie.spec
-    returns
+    sub-first
     sub-wide-width
     part-wide-width-start
     part-wide-width-end
     wide-width-requires
+    returns
     returns-2
-    returns-3
     sub-wide-width-2
     part-wide-width-start-2
     part-wide-width-end-2
     wide-width-requires-2
+    returns-3
     returns-4
-    returns-5)
+    sub-wide-width-3
+    part-wide-width-start-3
+    part-wide-width-end-3
+    wide-width-requires-3
+    returns-5
+    returns-6)
