@@ -36,7 +36,7 @@ fn add(cases: &mut Cases, text: &str) {
     }
 }
 
-/// Around the limit of 128 levels, in arrays, in records and in both by turns.
+/// Around the limit, depth 128, which is 129 levels: in arrays, in records and in both by turns.
 fn depths(cases: &mut Cases) {
     let shapes: [[(&str, &str); 2]; 4] = [
         [("[", "]"), ("[", "]")],

@@ -1,9 +1,11 @@
 //! Runs the night listing on inputs and outputs that a terminal seldom has: pieces of one byte, sizes at the limit, random bytes, outputs
 //! that fail. In every case the program must end by itself, and what it wrote must be the oracle's listing, or as much of it as the output
-//! took. The manual's examples are cases too. Takes the paths of program and manual; prints each case that failed, and how many there were.
+//! took. The manual's examples and the stored night listings are cases too. Takes the paths of program, manual and `nights.bin`; prints each
+//! case that failed, and how many there were.
 
 mod logs;
 mod manual;
+mod nights;
 mod tester;
 
 use logs::{EXAMPLE, LINE, LOG, Random, crowded, is_listed, log_of, sketched, wide_log, widest};
@@ -116,15 +118,17 @@ fn slow_outputs(t: &mut Tester) {
 }
 
 fn main() {
-    let (Some(program), Some(path)) = (std::env::args().nth(1), std::env::args().nth(2)) else {
-        eprintln!("usage: robustness PROGRAM MANUAL");
+    let args: Vec<String> = std::env::args().skip(1).collect();
+    let [program, manual, nights] = args.as_slice() else {
+        eprintln!("usage: robustness PROGRAM MANUAL NIGHTS");
         exit(2);
     };
-    let text = fs::read_to_string(path).expect("the manual");
+    let text = fs::read_to_string(manual).expect("the manual");
+    let stored = fs::read(nights).expect("the night listings");
     let scratch = std::env::temp_dir().join(format!("robustness-{}", std::process::id()));
     fs::create_dir_all(&scratch).expect("create_dir_all");
     let mut tester = Tester {
-        program,
+        program: program.clone(),
         scratch,
         cases: 0,
         failed: 0,
@@ -140,6 +144,7 @@ fn main() {
     manual::values(&mut tester, &text);
     manual::refusals(&mut tester, &text);
     manual::event(&mut tester, &text);
+    nights::replay(&mut tester, &stored);
     fs::remove_dir_all(&tester.scratch).expect("remove_dir_all");
     println!(
         "robustness of {}: {} cases, {} failed",

@@ -107,14 +107,18 @@ impl Tester {
         command
     }
 
-    /// The whole input at once through a pipe; the program may end before it has read all.
+    /// The whole input at once through a pipe.
     pub fn whole(&mut self, name: &str, input: &[u8]) {
-        let expected = answers::night_listing(input);
+        self.listed(name, input, answers::night_listing(input).as_bytes());
+    }
+
+    /// The same, with the listing at hand; the program may end before it has read all.
+    pub fn listed(&mut self, name: &str, input: &[u8], expected: &[u8]) {
         let bytes = input.to_vec();
         let run = run(self.command(), move |mut pipe| {
             let _ = pipe.write_all(&bytes);
         });
-        let good = run.ended_well() && run.wrote == expected.as_bytes();
+        let good = run.ended_well() && run.wrote == expected;
         self.check(name, good, &run);
     }
 

@@ -179,3 +179,8 @@ unfolding countEntries storedKeys entryAt
 stored-at noEntry i h = absurd (omega arith)
 stored-at (entry ty id fs ps es) zero h = refl
 stored-at (entry ty id fs ps es) (suc i) h = stored-at es i (omega arith)
+
+pub stored-count : (es : Entries) → length (storedKeys es) ≡ countEntries es
+unfolding countEntries storedKeys
+stored-count noEntry = refl
+stored-count (entry ty id fs ps es) = ap suc (stored-count es)

@@ -1,4 +1,4 @@
--- The facts of document 01's proof set that no crate below states, computed.
+-- Facts 8 to 12 of document 01's proof set: 8 and 9 are computed, 10 to 12 are stated by `values` for any depth.
 -- Assumes nothing.
 use mathlib.Core.Path.{refl}
 use Rattle.buffers.specs.Same.{same, among}
@@ -16,12 +16,12 @@ use Rattle.keys.specs.Entity.{opens as entityOpens, closes as entityCloses, ent
 use Rattle.numbers.specs.Grammar.{many}
 use Rattle.numbers.specs.Digits.{value}
 use Rattle.numbers.specs.Integer.{i64Of}
-use Rattle.numbers.specs.Decimal.{hasDot, decimal}
 use Rattle.pack.specs.Value.{count, countFields}
 use Rattle.pack.specs.Pack.{put}
 use Rattle.pack.specs.Walk.{children, skip, pastAt, textAt}
 use Rattle.values.specs.Text.{full, parts, wrapped}
 use Rattle.values.specs.Parse.{scalarOf, wordOr, recordOf, parseFields, parseTrimmed, parse}
+use Rattle.values.proofs.Examples.{facts}
 use Rattle.heads.specs.Head.{quoteOpenFrom, doubleColon, namesFrom, kindIn, parseEventHead, putTexts, countTexts}
 use Rattle.entities.specs.Entries.{countEntries, putEntries}
 use Rattle.entities.specs.Parse.{parseEntityParents, parseEntry, parseEntries, parseEntities}
@@ -36,8 +36,7 @@ unfolding readLine lineAnswer utf8From parseLine parseTime whiteFrom whiteAt whi
 out-of-order = refl
 
 pub values-read : Fact10 × Fact11 × Fact12
-unfolding parse parseTrimmed wordOr same trimEnd trimFrom whiteAt charOf white wideWhite wrapped scalarOf readEntity entityFrom entityOpens entityCloses quoteFrom unescapeFrom i64Of many value decimal hasDot
-values-read = (refl, (refl, refl), (refl, refl))
+values-read = let f = facts 128 in (f .0, (f .1, f .2), (f .3, f .4))
 
 -- either spelling, through the whole line
 pub one-key : Fact9

@@ -22,8 +22,8 @@ use Rattle.lines.specs.declared.LineRead.{LineRead}
 use Rattle.lines.specs.declared.LineRead.the-variants as LineRead
 use Rattle.logs.specs.Judge.{judgeLog}
 use Rattle.logs.specs.declared.Judged.the-variants.{Accepted}
-use Rattle.guarantees.specs.Keys.{storedKey, entryCount, typeText, decodedId, entitiesBody, writtenKey}
-use Rattle.guarantees.specs.Lines.{logLines, lineAt, Numbered, IsRead}
+use Rattle.guarantees.specs.Keys.{keysIn, storedKey, entryCount, typeText, decodedId, entitiesBody, writtenKey}
+use Rattle.guarantees.specs.Lines.{Within, logLines, lineAt, Numbered, IsRead}
 use Rattle.guarantees.specs.Calls.{ReadInto}
 use Rattle.guarantees.proofs.Agreement.{line-alone, accepted-iff}
 use Rattle.guarantees.proofs.Left.{read-accepted, event-read, left-tables, taken-line}
@@ -41,6 +41,10 @@ entry-for-each-part s h = StoredKeys.entry-for-each-part (read-accepted s h)
 pub entry-read : (s : List ℕ) {e : Event} → readLine s ≡ event e → (i : ℕ) → i < entryCount e
     → parse levels (writtenKey i (trim s)) ≡ done (entity (typeText i e) (decodedId i e))
 entry-read s h i l = StoredKeys.entry-read (read-accepted s h) i l
+
+-- The entities node that a call left has as many stored keys as the event has entries, so what follows is said of all its entries.
+pub key-for-each-entry : {s : List ℕ} {p q : Pack} {f : Front} {e : Event} → ReadInto s p (LineRead.Event f) q → readLine s ≡ event e → length (keysIn q) ≡ entryCount e
+key-for-each-entry {s} w h = rw (left-tables w h .1) (StoredKeys.key-for-each-entry (read-accepted s h) _)
 
 -- 3. Two calls, on any two lines and into any tables: the stretches of the two text tables that are the stored keys of two entries are equal,
 -- byte for byte, exactly when the entries' type texts are equal and their decoded ids are.
@@ -60,15 +64,15 @@ pub key-stored-again : {s : List ℕ} {p q : Pack} {f : Front} {e : Event} → R
     → (ty id : List ℕ) → parse levels (storedKey i q) ≡ done (entity ty id) → entityUid pinned ty id ≡ storedKey i q
 key-stored-again {s} w h i l ty id = rw (left-tables w h .1) (StoredKeys.key-stored-again (read-accepted s h) _ i l ty id)
 
--- 5. A line of an accepted log, read alone into tables that are long enough, is blank or leaves a pack as above,
+-- 5. A line of an accepted log, read alone into tables that are long enough, is blank or leaves a pack as above.
 pub log-line : (l : List ℕ) {c : ℕ} → judgeLog l ≡ Accepted c → (line : ℕ) → Numbered line (logLines l) → {p q : Pack} {r : LineRead}
     → enough (p .kinds) (p .numbers) (p .texts) ≡ true → ReadInto (lineAt line (logLines l)) p r q → (r ≡ LineRead.Blank) ⊎ ((f : Front) × (r ≡ LineRead.Event f))
 log-line l {c} a line n b w = taken-line (accepted-iff l c .0 a .1 line n) b w
 
--- and the event of 3 is the one that it gives in its log.
-pub log-keys-meet : (l l′ : List ℕ) {c c′ : ℕ} → judgeLog l ≡ Accepted c → judgeLog l′ ≡ Accepted c′ → (line line′ : ℕ) → {p q p′ q′ : Pack} {f f′ : Front} {e e′ : Event}
+-- The event of 3 is the one that the line gives in its log, be the log's other lines read or refused: it is enough that the log is within the
+-- limits.
+pub log-keys-meet : (l l′ : List ℕ) → Within l → Within l′ → (line line′ : ℕ) → {p q p′ q′ : Pack} {f f′ : Front} {e e′ : Event}
     → ReadInto (lineAt line (logLines l)) p (LineRead.Event f) q → ReadInto (lineAt line′ (logLines l′)) p′ (LineRead.Event f′) q′
     → lineAnswer (lineAt line (logLines l)) ≡ event e → lineAnswer (lineAt line′ (logLines l′)) ≡ event e′ → (i j : ℕ) → i < entryCount e → j < entryCount e′
     → (storedKey i q ≡ storedKey j q′) ↔ ((typeText i e ≡ typeText j e′) × (decodedId i e ≡ decodedId j e′))
-log-keys-meet l l′ {c} {c′} a a′ line line′ w w′ h h′ =
-    keys-meet w w′ (line-alone l (accepted-iff l c .0 a .0) line ∙ h) (line-alone l′ (accepted-iff l′ c′ .0 a′ .0) line′ ∙ h′)
+log-keys-meet l l′ a a′ line line′ w w′ h h′ = keys-meet w w′ (line-alone l a line ∙ h) (line-alone l′ a′ line′ ∙ h′)

@@ -26,7 +26,7 @@ use Rattle.events.specs.Event.{Event, putEvent}
 use Rattle.events.proofs.Bounds.{line-small}
 use Rattle.guarantees.specs.Keys.{Accepted, tablesOf, keysIn, storedKey, entryCount, typeText, decodedId, entitiesBody, writtenKey}
 use Rattle.guarantees.proofs.Standing
-use Rattle.guarantees.proofs.EntryReading.{same-key, entity-read, type-clean, key-text-trimmed, line-body, line-entered, stored-at}
+use Rattle.guarantees.proofs.EntryReading.{same-key, entity-read, type-clean, key-text-trimmed, line-body, line-entered, stored-at, stored-count}
 
 -- 1. What an entry is. The entries of an event are those of its line's entities body, one for each comma part,
 pub entities-of-the-line : {s : List ℕ} {e : Event} → Accepted s e → parseEntities (entitiesBody s) ≡ ok (e .entities)
@@ -46,9 +46,13 @@ entry-spelled {s} a i h =
     let k = accepted (trim (writtenKey i s)) _ _ (entity-read (writtenKey i s) _ _ (entry-read a i h)) in
     (k .raw, sym (key-text-trimmed _) ∙ k .is, k .stands)
 
--- 2. Walking the pack finds the stored keys of all entries, in written order.
+-- 2. Walking the pack finds the stored keys of all entries, in written order,
 pub keys-stand : {s : List ℕ} {e : Event} → Accepted s e → (rest : Pack) → keysIn (tablesOf e rest) ≡ storedKeys (e .entities)
 keys-stand {s} {e} a rest = Standing.keys-stand e rest (let short = a .short in omega (arith, line-small s e (a .read) .1))
+
+-- one for each entry.
+pub key-for-each-entry : {s : List ℕ} {e : Event} → Accepted s e → (rest : Pack) → length (keysIn (tablesOf e rest)) ≡ entryCount e
+key-for-each-entry {s} {e} a rest = rw (keys-stand a rest) (stored-count (e .entities))
 
 -- The tables as a call leaves them are such tables: the pack, zeros up to their used lengths, and past those what was there.
 pub tables-padded : (n m : ℕ) (e : Event) (past : Pack)

@@ -48,10 +48,10 @@ fn read_and_compare(
 }
 
 fn value_case(input: &[u8], answer: &[u8]) -> bool {
-    let mut kinds = [0u8; 8_192];
-    let mut numbers = [0u64; 8_192];
-    let mut texts = [0u8; 32_768];
-    let mut links = [0u16; 4_097];
+    let mut kinds = [77u8; 8_192];
+    let mut numbers = [77u64; 8_192];
+    let mut texts = [77u8; 32_768];
+    let mut links = [77u16; 4_097];
     read_and_compare(
         &mut kinds,
         &mut numbers,
