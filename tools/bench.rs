@@ -71,6 +71,27 @@ mod ours {
                 s: *const u8,
                 n: usize,
             ) -> usize;
+            pub fn bench_list_one(
+                kinds: *mut u8,
+                k: usize,
+                numbers: *mut u64,
+                m: usize,
+                texts: *mut u8,
+                l: usize,
+                links: *mut u16,
+                j: usize,
+                scratch: *mut u8,
+                i: usize,
+                order: *mut u16,
+                h: usize,
+                spare: *mut u16,
+                g: usize,
+                out: *mut u8,
+                f: usize,
+                line: *const u8,
+                n: usize,
+                number: u64,
+            ) -> usize;
         }
     }
 
@@ -166,14 +187,44 @@ mod ours {
             )
         }
     }
+
+    /// How many bytes the event of a line lists in, 0 where there is none. The tables have the lengths that `list_one` requires.
+    pub fn list_one(tables: &mut super::Tables, out: &mut [u8], line: &[u8], number: u64) -> u64 {
+        unsafe {
+            c::bench_list_one(
+                tables.kinds.as_mut_ptr(),
+                tables.kinds.len(),
+                tables.numbers.as_mut_ptr(),
+                tables.numbers.len(),
+                tables.texts.as_mut_ptr(),
+                tables.texts.len(),
+                tables.links.as_mut_ptr(),
+                tables.links.len(),
+                tables.scratch.as_mut_ptr(),
+                tables.scratch.len(),
+                tables.order.as_mut_ptr(),
+                tables.order.len(),
+                tables.spare.as_mut_ptr(),
+                tables.spare.len(),
+                out.as_mut_ptr(),
+                out.len(),
+                line.as_ptr(),
+                line.len(),
+                number,
+            ) as u64
+        }
+    }
 }
 
-/// Tables for a value of at most 4,096 bytes, as a caller lends them.
+/// Tables for a value or a line of at most 4,096 bytes, as a caller lends them.
 struct Tables {
     kinds: Vec<u8>,
     numbers: Vec<u64>,
     texts: Vec<u8>,
     links: Vec<u16>,
+    scratch: Vec<u8>,
+    order: Vec<u16>,
+    spare: Vec<u16>,
 }
 
 impl Tables {
@@ -183,6 +234,9 @@ impl Tables {
             numbers: vec![0; 8192],
             texts: vec![0; 32768],
             links: vec![0; 4097],
+            scratch: vec![0; 4096],
+            order: vec![0; 4096],
+            spare: vec![0; 4096],
         }
     }
 }

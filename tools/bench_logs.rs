@@ -1,4 +1,5 @@
-//! Whole logs: `judge` beside `parse_trace`, and the listing of every line beside the oracle's. A log has nearly 65,536 bytes.
+//! Whole logs: `judge` beside `parse_trace`, and the listing of every line beside the oracle's: as the program lists a judged log, and
+//! each line alone, through the entry point, which tests and clears for every line. A log has nearly 65,536 bytes.
 //! Both sides take turns, and the row has the median of the turns' ratios. What counts is the time that this thread had a processor, since
 //! the machine is shared.
 
@@ -180,11 +181,14 @@ fn rust_list(log: &str) -> u64 {
         .sum()
 }
 
+/// Lists one line's event with the number that is handed in: how many bytes it has, 0 where the line is blank.
+type ListLine = fn(&mut Tables, &mut [u8], &[u8], u64) -> u64;
+
 /// The same from the tables, a call for each line.
-fn our_list(tables: &mut Tables, out: &mut [u8], log: &str) -> u64 {
+fn our_list(list: ListLine, tables: &mut Tables, out: &mut [u8], log: &str) -> u64 {
     let (mut total, mut number) = (0, 1);
     for line in black_box(log).lines() {
-        let count = ours::list_line(tables, out, line.as_bytes(), number);
+        let count = list(tables, out, line.as_bytes(), number);
         assert!(count < 1 << 32, "an accepted line");
         total += count;
         number += u64::from(count > 0);
@@ -240,9 +244,15 @@ pub fn rows(word: &str) {
         }
         if format!("list log {}", kind.name).contains(word) {
             let (rust, ours) = (&mut || rust_list(&log), &mut || {
-                our_list(&mut tables, &mut out, &log)
+                our_list(ours::list_one, &mut tables, &mut out, &log)
             });
             row("list", kind.name, &log, rust, ours);
+        }
+        if format!("list alone log {}", kind.name).contains(word) {
+            let (rust, ours) = (&mut || rust_list(&log), &mut || {
+                our_list(ours::list_line, &mut tables, &mut out, &log)
+            });
+            row("list alone", kind.name, &log, rust, ours);
         }
     }
 }
@@ -259,7 +269,7 @@ pub fn once(name: &str, side: &str) {
         .find(|kind| kind.name == name)
         .expect("a kind of log");
     let mut log = log_of(kind);
-    if side.ends_with("list") {
+    if side.contains("list") {
         log = log.split_inclusive('\n').take(256).collect();
     }
     let mut tables = Tables::new();
@@ -268,8 +278,9 @@ pub fn once(name: &str, side: &str) {
         "rust_judge" => rust_judge(&log),
         "rust_list" => rust_list(&log),
         "judge" => ours::judge(&mut tables, log.as_bytes()),
-        "list" => our_list(&mut tables, &mut out, &log),
-        _ => panic!("rust_judge, rust_list, judge or list"),
+        "list" => our_list(ours::list_one, &mut tables, &mut out, &log),
+        "list_alone" => our_list(ours::list_line, &mut tables, &mut out, &log),
+        _ => panic!("rust_judge, rust_list, judge, list or list_alone"),
     });
     println!("{}", log.lines().count());
 }

@@ -9,8 +9,13 @@ ghost use Rattle.cuts.specs.Linked.{Here, Ready};
 ghost use Rattle.pack.specs.Pack.{emptyPack};
 ghost use Rattle.pack.specs.Post.{Room};
 ghost use Rattle.values.specs.Read.{readValue};
+ghost use Rattle.events.specs.Answer.{lineAnswer};
+ghost use Rattle.lines.specs.Entry.{Tables};
+ghost use Rattle.listing.specs.Entry.{Sorting, listAnswer, listOutput};
 ghost use Rattle.bench_hooks.specs.Kinds.{kindsRead};
+ghost use Rattle.bench_hooks.specs.Bytes.{bytesListed};
 use format::Front;
+use listing::Listed;
 use values::Read;
 
 #[no_mangle]
@@ -54,5 +59,41 @@ pub extern "C" fn bench_parse_value(
     match read {
         Read::Done(end) => end.nodes,
         Read::Refused(_) => 0,
+    }
+}
+
+// Lists one line of a judged log: how many bytes the listing has, and 0 where there is none.
+#[no_mangle]
+pub extern "C" fn bench_list_one(
+    kinds: &mut [u8],
+    numbers: &mut [u64],
+    texts: &mut [u8],
+    links: &mut [u16],
+    scratch: &mut [u8],
+    order: &mut [u16],
+    spare: &mut [u16],
+    out: &mut [u8],
+    line: &[u8],
+    number: u64,
+) -> usize
+    requires { ⌜ Tables (now kinds) (now numbers) (now texts) (now links) (now scratch) × Sorting (now order) (now spare) ⌝ }
+    ensures { λ r. ⌜ r ≡ bytesListed (listAnswer number (length (now (out .entry))) (lineAnswer (now (line .entry)))) ⌝ }
+    ensures { λ _. ⌜ now (out .exit) ≡ listOutput number (now (out .entry)) (lineAnswer (now (line .entry))) ⌝ }
+{
+    match listing::list_one(
+        kinds,
+        numbers,
+        texts,
+        links,
+        scratch,
+        order,
+        spare,
+        out,
+        line,
+        number,
+    ) {
+        Listed::Written(count) => count,
+        Listed::Blank => 0,
+        Listed::Refused(_) => 0,
     }
 }
