@@ -50,7 +50,7 @@ impl Maker {
             14..=29 => self.deep().into_bytes(),
             30..=49 => self.soup().into_bytes(),
             60..=64 => self.many_fields().into_bytes(),
-            65..=68 => self.characters().into_bytes(),
+            65..=76 => self.characters().into_bytes(),
             _ => self.lines().into_bytes(),
         };
         let mut log = self.marked(log);
@@ -104,7 +104,8 @@ impl Maker {
             0..=1 => self.vector_line(),
             2..=5 => self.faults(),
             6 => self.space() + &self.space() + &self.space(),
-            7 => self.entry_faults(),
+            7..=8 => format!("@0 entities({})::\"\"::k()", self.faulty_entries()),
+            9..=11 => self.neighbours(),
             _ => self.line(),
         }
     }
@@ -146,14 +147,73 @@ impl Maker {
         format!("{front}{a}{}{b}{}{c}{}{end}", spaces[0], spaces[1], spaces[2])
     }
 
-    /// Every fault of an entry beside every other, behind an entry whose key it may repeat.
-    fn entry_faults(&mut self) -> String {
+    /// Faults in neighbouring places of a line: time, scope, entities, context, event. Behind them the line ends, or goes on well.
+    fn neighbours(&mut self) -> String {
+        let first = self.random.below(5);
+        let last = first + self.random.below(3);
+        let count = *self.random.pick(&[last + 1, 5]);
+        let well = ["@0 ", "", "", "", "::\"\"::k()"].into_iter().enumerate().take(count);
+        well.map(|(place, well)| match place {
+            _ if (first..=last).contains(&place) => self.fault(place),
+            _ => well.to_string(),
+        })
+        .collect()
+    }
+
+    fn fault(&mut self, place: usize) -> String {
+        let close = *self.random.pick(&["", ")"]);
+        match place {
+            0 => self.random.pick(&FRONT_FAULTS).to_string(),
+            1 => format!("scope({}{close}", self.faulty_fields(1)),
+            2 => format!("entities({}{close}", self.faulty_entries()),
+            3 => format!("request_context({}{close}", self.faulty_fields(1)),
+            _ => format!("{}{}{close}", self.random.pick(&HEAD_FAULTS), self.faulty_fields(1)),
+        }
+    }
+
+    /// A few parts of a body.
+    fn few(&mut self, part: impl Fn(&mut Maker) -> String) -> String {
+        let count = 1 + self.random.below(4);
+        let parts: Vec<String> = (0..count).map(|_| part(self)).collect();
+        parts.join(",")
+    }
+
+    /// Few names, so that they meet, and values that are refused.
+    fn faulty_fields(&mut self, levels: usize) -> String {
+        self.few(|maker| {
+            let name = *maker.random.pick(&["a", "b", "a", "b", ""]);
+            match maker.random.below(6) {
+                0 => name.to_string(),
+                1 | 2 if levels > 0 => format!("{name}:{{{}}}", maker.faulty_fields(levels - 1)),
+                3 if levels > 0 => format!("{name}:[{{{}}}]", maker.faulty_fields(levels - 1)),
+                _ => format!("{name}:1"),
+            }
+        })
+    }
+
+    /// Every fault of an entry beside every other, behind an entry whose key it may repeat and before a further one.
+    fn faulty_entries(&mut self) -> String {
+        let before = *self.random.pick(&BEFORE_ENTRIES);
+        let mut out = format!("{before}{}", self.faulty_entry());
+        if self.random.once_in(2) {
+            out += &format!(",{}", self.faulty_entry());
+        }
+        out
+    }
+
+    fn faulty_entry(&mut self) -> String {
         let r = &mut self.random;
-        let (before, key) = (*r.pick(&BEFORE_ENTRIES), *r.pick(&ENTRY_KEYS));
-        let (colon, record) = (*r.pick(&ENTRY_COLONS), *r.pick(&ENTRY_RECORDS));
-        let tail = *r.pick(&ENTRY_TAILS);
-        let behind = self.space();
-        format!("@0 entities({before}{key}{colon}{record}{behind}{tail})::\"\"::k()")
+        let (key, colon) = (*r.pick(&ENTRY_KEYS), *r.pick(&ENTRY_COLONS));
+        let (record, tail) = (*r.pick(&ENTRY_RECORDS), *r.pick(&ENTRY_TAILS));
+        let record = match self.random.below(6) {
+            0 => format!("{{{}}}", self.faulty_fields(1)),
+            _ => record.to_string(),
+        };
+        let tail = match self.random.below(3) {
+            0 => format!("in[{}]", self.few(|maker| maker.random.pick(&PARENTS).to_string())),
+            _ => tail.to_string(),
+        };
+        format!("{key}{colon}{record}{}{tail}", self.space())
     }
 
     fn space(&mut self) -> String {
@@ -479,7 +539,7 @@ impl Maker {
     /// Many short texts, each with a character at an end of a range in front, some with one more.
     fn characters(&mut self) -> String {
         let mut items = Vec::new();
-        for _ in 0..20 + self.random.below(60) {
+        for _ in 0..40 + self.random.below(160) {
             let mut text = self.random.pick(range_ends()).to_string();
             if self.random.once_in(3) {
                 text.push(*self.random.pick(range_ends()));
@@ -496,7 +556,7 @@ impl Maker {
                         item.replacen("T::\"", "\"", 1).replacen('"', "::\"", 1)
                     )
                 })
-                .take(6)
+                .take(20)
                 .collect(),
             1 => {
                 let entry = |item: String| {

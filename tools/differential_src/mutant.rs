@@ -43,9 +43,25 @@ mutants! {
     FullOutputRefused "an output that is just filled is refused"
     ShortOutputTaken "an output one short is taken"
     OutputFirst "5 comes before the other refusals of a line"
+    OutputBeforeTables "5 comes before 1 to 4 in listing a line"
+    OutputBeforeFour "5 comes before 4 in cut and key"
+    OutputBeforeText "5 comes before 2 and 3 in decode"
     OrderOneTwo "2 comes before 1"
     OrderTwoThree "3 comes before 2"
     OrderThreeFour "4 comes before 3"
+    OrderFourTen "10 comes before 4"
+    OrderTenEleven "11 comes before 10"
+    OrderElevenTwelve "12 comes before 11"
+    OrderTwelveThirteen "13 comes before 12"
+    OrderThirteenFourteen "14 comes before 13"
+    OrderFourteenFifteen "15 comes before 14"
+    OrderFifteenSixteen "16 comes before 15"
+    OrderSixteenSeventeen "17 comes before 16"
+    OrderSixteenNineteen "19 to 21 come before 16"
+    OrderNineteenTwentyOne "21 comes before 19"
+    OrderTwentyEightTwentyNine "29 comes before 28"
+    LineLimitLate "4 comes behind the line's own refusals"
+    TimeLate "12 comes behind the envelopes"
     KeyOrder "of two texts, the first is tested to the end before the second"
     MarkKept "U+FEFF at the start of a log is kept"
     MarkTwice "two U+FEFF at the start of a log are dropped"
@@ -115,11 +131,17 @@ mutants! {
     DuplicateFirst "23 comes before the value is read"
     DuplicateFieldFirst "26 comes before the value is read"
     DuplicateKeyFirst "34 comes before the record and parents are read"
+    DuplicateLate "23 comes behind all fields"
+    DuplicateFieldLate "26 comes behind all fields"
+    DuplicateKeyLate "34 comes behind all entries"
+    ArgumentColonsFirst "22 of all fields comes first"
+    FieldColonsFirst "25 of all fields comes first"
     DuplicateRaw "record names are compared as written"
     DuplicateTaken "the later of two equal record names wins"
     DepthLow "nesting of 128 is refused"
     DepthHigh "nesting of 130 is read"
     DepthAtBracket "an empty array one level too deep is read"
+    DepthLate "24 comes behind the refusals of what stands inside"
     EmptyDeepRefused "129 nested empty arrays are refused"
     ValueUntrimmed "values are not trimmed"
     ItemUntrimmed "items are not trimmed"
@@ -166,6 +188,9 @@ mutants! {
     EntryLast "an entry's record ends at its last brace"
     InNeedsSpace "in needs whitespace behind it"
     InAnyCase "in may be written in capitals"
+    EntryFrontsFirst "27 and 28 of all entries come first"
+    RecordBeforeColon "the record is read before 28"
+    ParentsReadFirst "32 comes behind all parents' own refusals"
     ParentsFirst "parents are read before the record"
     KeyBeforeRecord "the key is read before the record"
     KeyBeforeParents "the key is read before the parents"
@@ -297,7 +322,7 @@ pub fn all() -> Vec<(Mutant, String)> {
     for ranges in [oracle::ranges::anywhere(), oracle::ranges::first_only()] {
         out.extend(at_ranges(&ranges));
     }
-    for number in (1..5).chain([5]).chain(10..34) {
+    for number in (1..5).chain([5]).chain(10..35) {
         let next = if number == 5 { 10 } else { number + 1 };
         out.push((Mutant::Swapped(number, next), format!("refusals {number} and {next} swapped")));
     }

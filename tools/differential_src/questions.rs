@@ -10,12 +10,13 @@ const DRAWN: usize = 4;
 /// No room at all.
 pub const NO_ROOM: i32 = i32::MIN;
 
-fn lent(random: &mut Random) -> Lent {
-    match random.below(120) {
+/// A text at its limit has short tables more often.
+fn lent(random: &mut Random, text: &[u8]) -> Lent {
+    match random.below(if text.len() < 65_000 { 120 } else { 12 }) {
         0 => Lent::ShortKinds,
         1 => Lent::ShortNumbers,
         2 => Lent::ShortTexts,
-        3..=60 => Lent::Exact,
+        n if n % 2 == 0 => Lent::Exact,
         _ => Lent::Longer,
     }
 }
@@ -25,7 +26,7 @@ fn slack(random: &mut Random) -> i32 {
 }
 
 fn question<'a>(random: &mut Random, ask: Ask, text: &'a [u8]) -> Question<'a> {
-    Question { ask, text, ty: b"", lent: lent(random), slack: slack(random) }
+    Question { ask, text, ty: b"", lent: lent(random, text), slack: slack(random) }
 }
 
 pub fn about<'a>(random: &mut Random, log: &'a [u8]) -> Vec<Question<'a>> {

@@ -1,7 +1,7 @@
 //! Runs the night listing on inputs and outputs that a terminal seldom has: pieces of one byte, sizes at the limit, random bytes, outputs
-//! that fail. In every case the program must end by itself, and what it wrote must be the oracle's listing, or as much of it as the output
-//! took. The manual's examples and the stored night listings are cases too. Takes the paths of program, manual and `nights.bin`; prints each
-//! case that failed, and how many there were.
+//! that fail. In every case the program must end by itself, what it wrote must be the oracle's listing, or as much of it as the output
+//! took, and nothing may come on its error output. The manual's examples and the stored night listings are cases too. Takes the paths of
+//! program, manual and `nights.bin`; prints each case that failed, and how many there were.
 
 mod logs;
 mod manual;

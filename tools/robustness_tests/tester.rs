@@ -1,4 +1,4 @@
-//! Runs the program with one kind of input or output, and holds what it wrote to the oracle's listing.
+//! Runs the program with one kind of input or output, and holds what it wrote to the oracle's listing. Its error output stays empty.
 
 use oracle::answers;
 use std::fs::{self, File, OpenOptions};
@@ -8,8 +8,8 @@ use std::os::unix::fs::OpenOptionsExt;
 use std::os::unix::net::UnixDatagram;
 use std::os::unix::process::ExitStatusExt;
 use std::path::PathBuf;
-use std::process::{Child, Command, ExitStatus, Stdio};
-use std::thread;
+use std::process::{Child, ChildStdin, ChildStdout, Command, ExitStatus, Stdio};
+use std::thread::{self, JoinHandle};
 use std::time::{Duration, Instant};
 
 /// A program that runs longer than this did not end.
@@ -25,10 +25,11 @@ pub struct Tester {
     pub failed: usize,
 }
 
-/// How a run ended, and what it wrote.
+/// How a run ended, what it wrote, and what came on its error output.
 struct Run {
     status: Option<ExitStatus>,
     wrote: Vec<u8>,
+    errors: Vec<u8>,
 }
 
 impl Run {
@@ -56,7 +57,7 @@ fn wait(child: &mut Child) -> Option<ExitStatus> {
 }
 
 /// Takes all output in a thread of its own.
-fn collect(mut output: impl Read + Send + 'static) -> thread::JoinHandle<Vec<u8>> {
+fn collect(mut output: impl Read + Send + 'static) -> JoinHandle<Vec<u8>> {
     thread::spawn(move || {
         let mut wrote = Vec::new();
         output.read_to_end(&mut wrote).expect("read");
@@ -64,34 +65,72 @@ fn collect(mut output: impl Read + Send + 'static) -> thread::JoinHandle<Vec<u8>
     })
 }
 
+/// A program that runs; a thread takes its error output.
+struct Started {
+    child: Child,
+    errors: JoinHandle<Vec<u8>>,
+}
+
+impl Started {
+    /// The command ends here, and with it our hold on the input and output that it hands on.
+    fn new(mut command: Command) -> Started {
+        let mut child = command.stderr(Stdio::piped()).spawn().expect("spawn");
+        let errors = collect(child.stderr.take().expect("stderr"));
+        Started { child, errors }
+    }
+
+    /// With pipes for input and output.
+    fn piped(mut command: Command) -> Started {
+        command.stdin(Stdio::piped()).stdout(Stdio::piped());
+        Started::new(command)
+    }
+
+    fn stdin(&mut self) -> ChildStdin {
+        self.child.stdin.take().expect("stdin")
+    }
+
+    fn stdout(&mut self) -> ChildStdout {
+        self.child.stdout.take().expect("stdout")
+    }
+
+    fn give(&mut self, input: &[u8]) {
+        self.stdin().write_all(input).expect("write");
+    }
+
+    /// Waits for the end, then takes what was written.
+    fn end(mut self, wrote: impl FnOnce() -> Vec<u8>) -> Run {
+        Run {
+            status: wait(&mut self.child),
+            wrote: wrote(),
+            errors: self.errors.join().expect("errors"),
+        }
+    }
+}
+
 /// Hands over the input and takes all output.
-fn run(mut command: Command, input: impl FnOnce(Box<dyn Write + Send>) + Send + 'static) -> Run {
-    let mut child = command
-        .stdin(Stdio::piped())
-        .stdout(Stdio::piped())
-        .spawn()
-        .expect("spawn");
-    let stdin = child.stdin.take().expect("stdin");
+fn run(command: Command, input: impl FnOnce(Box<dyn Write + Send>) + Send + 'static) -> Run {
+    let mut program = Started::piped(command);
+    let stdin = program.stdin();
     let writer = thread::spawn(move || input(Box::new(stdin)));
-    let reader = collect(child.stdout.take().expect("stdout"));
-    let status = wait(&mut child);
-    let wrote = reader.join().expect("reader");
+    let reader = collect(program.stdout());
+    let run = program.end(|| reader.join().expect("reader"));
     writer.join().expect("writer");
-    Run { status, wrote }
+    run
 }
 
 impl Tester {
     /// Counts a case; says so where it failed.
     fn check(&mut self, name: &str, good: bool, run: &Run) {
         self.cases += 1;
-        if !good {
+        if !good || !run.errors.is_empty() {
             self.failed += 1;
-            let start = &run.wrote[..run.wrote.len().min(200)];
+            let start = |bytes: &[u8]| bytes[..bytes.len().min(200)].escape_ascii().to_string();
             eprintln!(
-                "{name}: failed; status {:?}, {} bytes: {}",
+                "{name}: failed; status {:?}, {} bytes: {}; errors: {}",
                 run.status,
                 run.wrote.len(),
-                start.escape_ascii()
+                start(&run.wrote),
+                start(&run.errors)
             );
         }
     }
@@ -146,8 +185,7 @@ impl Tester {
         command
             .stdin(Stdio::from(OwnedFd::from(theirs)))
             .stdout(Stdio::piped());
-        let mut child = command.spawn().expect("spawn");
-        drop(command);
+        let mut program = Started::new(command);
         let bytes = input.to_vec();
         let writer = thread::spawn(move || {
             for piece in bytes.chunks(size) {
@@ -157,12 +195,8 @@ impl Tester {
             }
             let _ = ours.send(&[]);
         });
-        let reader = collect(child.stdout.take().expect("stdout"));
-        let status = wait(&mut child);
-        let run = Run {
-            status,
-            wrote: reader.join().expect("reader"),
-        };
+        let reader = collect(program.stdout());
+        let run = program.end(|| reader.join().expect("reader"));
         writer.join().expect("writer");
         let good = run.ended_well() && run.wrote == expected.as_bytes();
         self.check(name, good, &run);
@@ -189,34 +223,23 @@ impl Tester {
     /// ignored, the program sees that its write failed.
     pub fn cut_off(&mut self, name: &str, input: &[u8], after: usize, ignored: bool) {
         let expected = answers::night_listing(input);
-        let mut command = if ignored {
+        let mut program = Started::piped(if ignored {
             self.shell("trap '' PIPE; exec \"$0\"")
         } else {
             self.command()
-        };
-        let mut child = command
-            .stdin(Stdio::piped())
-            .stdout(Stdio::piped())
-            .spawn()
-            .expect("spawn");
-        let mut stdin = child.stdin.take().expect("stdin");
-        let mut stdout = child.stdout.take().expect("stdout");
+        });
+        let mut stdout = program.stdout();
         let mut wrote = vec![0; after];
         // Nothing is printed before the input ends, so an output closed at once is closed before the first write.
         if after == 0 {
             drop(stdout);
-            stdin.write_all(input).expect("write");
-            drop(stdin);
+            program.give(input);
         } else {
-            stdin.write_all(input).expect("write");
-            drop(stdin);
+            program.give(input);
             stdout.read_exact(&mut wrote).expect("read");
             drop(stdout);
         }
-        let run = Run {
-            status: wait(&mut child),
-            wrote,
-        };
+        let run = program.end(|| wrote);
         let ended = if ignored {
             run.ended_well()
         } else {
@@ -237,18 +260,9 @@ impl Tester {
         command
             .stdin(Stdio::piped())
             .stdout(File::create(&path).expect("create"));
-        let mut child = command.spawn().expect("spawn");
-        child
-            .stdin
-            .take()
-            .expect("stdin")
-            .write_all(input)
-            .expect("write");
-        let status = wait(&mut child);
-        let run = Run {
-            status,
-            wrote: fs::read(&path).expect("read"),
-        };
+        let mut program = Started::new(command);
+        program.give(input);
+        let run = program.end(|| fs::read(&path).expect("read"));
         let size = (blocks * 512).min(expected.len());
         let ended = if ignored || size == expected.len() {
             run.ended_well()
@@ -272,28 +286,16 @@ impl Tester {
             .expect("open");
         drop(theirs);
         let mut command = self.command();
-        let mut child = command
-            .stdin(Stdio::piped())
-            .stdout(hasty)
-            .spawn()
-            .expect("spawn");
-        drop(command);
-        child
-            .stdin
-            .take()
-            .expect("stdin")
-            .write_all(input)
-            .expect("write");
+        command.stdin(Stdio::piped()).stdout(hasty);
+        let mut program = Started::new(command);
+        program.give(input);
         let reader = thread::spawn(move || {
             thread::sleep(pause);
             let mut wrote = Vec::new();
             ours.read_to_end(&mut wrote).expect("read");
             wrote
         });
-        let run = Run {
-            status: wait(&mut child),
-            wrote: reader.join().expect("reader"),
-        };
+        let run = program.end(|| reader.join().expect("reader"));
         // A pipe holds 16 pages, and the last may not be full.
         let enough = run.wrote.len() >= expected.len().min(15 * 4_096);
         let good = run.ended_well() && expected.as_bytes().starts_with(&run.wrote) && enough;
@@ -303,32 +305,19 @@ impl Tester {
     /// The program is stopped and goes on while it waits for a full pipe: the write that waited is then short. Nothing may be lost.
     pub fn stopped(&mut self, name: &str, input: &[u8]) {
         let expected = answers::night_listing(input);
-        let mut child = self
-            .command()
-            .stdin(Stdio::piped())
-            .stdout(Stdio::piped())
-            .spawn()
-            .expect("spawn");
-        child
-            .stdin
-            .take()
-            .expect("stdin")
-            .write_all(input)
-            .expect("write");
+        let mut program = Started::piped(self.command());
+        program.give(input);
         thread::sleep(Duration::from_millis(100));
         for signal in ["-STOP", "-CONT"] {
             let sent = Command::new("kill")
-                .args([signal, &child.id().to_string()])
+                .args([signal, &program.child.id().to_string()])
                 .status()
                 .expect("kill");
             assert!(sent.success());
             thread::sleep(Duration::from_millis(20));
         }
-        let reader = collect(child.stdout.take().expect("stdout"));
-        let run = Run {
-            status: wait(&mut child),
-            wrote: reader.join().expect("reader"),
-        };
+        let reader = collect(program.stdout());
+        let run = program.end(|| reader.join().expect("reader"));
         let good = run.ended_well() && run.wrote == expected.as_bytes();
         self.check(name, good, &run);
     }
@@ -336,19 +325,9 @@ impl Tester {
     /// A reader that takes little and seldom loses nothing.
     pub fn slow_reader(&mut self, name: &str, input: &[u8]) {
         let expected = answers::night_listing(input);
-        let mut child = self
-            .command()
-            .stdin(Stdio::piped())
-            .stdout(Stdio::piped())
-            .spawn()
-            .expect("spawn");
-        child
-            .stdin
-            .take()
-            .expect("stdin")
-            .write_all(input)
-            .expect("write");
-        let mut stdout = child.stdout.take().expect("stdout");
+        let mut program = Started::piped(self.command());
+        program.give(input);
+        let mut stdout = program.stdout();
         let reader = thread::spawn(move || {
             let (mut wrote, mut piece) = (Vec::new(), [0; 997]);
             loop {
@@ -360,11 +339,7 @@ impl Tester {
                 thread::sleep(Duration::from_micros(500));
             }
         });
-        let status = wait(&mut child);
-        let run = Run {
-            status,
-            wrote: reader.join().expect("reader"),
-        };
+        let run = program.end(|| reader.join().expect("reader"));
         let good = run.ended_well() && run.wrote == expected.as_bytes();
         self.check(name, good, &run);
     }
