@@ -1,21 +1,37 @@
--- Answers are small: a pack's sizes and a refusal's line, so that their numbers fit into 64 bits and can be taken apart.
+-- Answers are small: a pack's sizes, counts and a refusal's line, so that their numbers fit into 64 bits and can be taken apart. No success
+-- is as large as a refusal, and where a line is read or listed only a blank one is 0.
 -- Assumes nothing.
-use mathlib.Core.Path.{_≡_, refl}
-use mathlib.Core.Bool.{Bool, true, false, cond}
+use mathlib.Core.Path.{_≡_, refl, subst}
+use mathlib.Core.Bool.{true, false, cond, not, _&&_, _||_}
 use mathlib.Core.List.{List, [], _∷_}
 use Prim.Native.Nat.{ℕ, suc, _+_, _*_, _≤_, _<_}
 use native.Mathlib.Omega.{arith}
-use borrow.Author.Tests.{leb-true}
-use lib.Dec.{leb, eqb}
-use lib.ListN.{length, drop, length-drop}
-use Rattle.buffers.proofs.Choice.{by-cond, both-arms}
+use borrow.Author.Tests.{leb-true, ltb-false}
+use lib.Dec.{leb, ltb, eqb}
+use lib.ListN.{length, drop, length-append, length-drop}
+use Rattle.buffers.proofs.Choice.{by-cond, both-arms, or-none-left, or-none-right}
 use Rattle.format.specs.Limits.{textLimit, lineLimit}
 use Rattle.format.specs.declared.Front.{Front}
 use Rattle.chars.specs.Utf8.{utf8}
 use Rattle.chars.specs.White.{empty, trim}
-use Rattle.cuts.specs.Split.{onto}
+use Rattle.cuts.specs.Split.{onto, cutPlaces}
+use Rattle.cuts.specs.Body.{cutBody}
+use Rattle.cuts.specs.declared.Cut.{Cut}
+use Rattle.cuts.specs.declared.Cut.the-variants as cut
+use Rattle.cuts.proofs.SplitLaws.{cut-places-le}
+use Rattle.escapes.specs.Unescape.{unescape}
+use Rattle.escapes.specs.Entry.{decoded}
+use Rattle.escapes.specs.declared.Decoded.{Decoded}
+use Rattle.escapes.specs.declared.Decoded.the-variants as decoding
+use Rattle.escapes.proofs.Unescaping.{unescape-length}
+use Rattle.keys.specs.Escape.{pinned, entityUid}
+use Rattle.keys.specs.Entry.{spellKey}
+use Rattle.keys.specs.declared.Spelled.{Spelled}
+use Rattle.keys.specs.declared.Spelled.the-variants as spelling
+use Rattle.keys.proofs.Lengths.{escape-length}
+use Rattle.pack.specs.Pack.{emptyPack}
 use Rattle.heads.specs.Outcome.{Outcome, ok, refused}
-use Rattle.events.specs.Event.{Event}
+use Rattle.events.specs.Event.{Event, putEvent}
 use Rattle.events.specs.Line.{parseLine}
 use Rattle.events.specs.Answer.{Answer, event, blank, eventOf, lineAnswer, readLine}
 use Rattle.events.proofs.Bounds.{line-small}
@@ -26,23 +42,33 @@ use Rattle.logs.specs.Lines.{linesOf, marked, unmarked, Walked, behind, stopped
 use Rattle.logs.specs.Judge.{counted, countLine, judgedBy, judgeLog}
 use Rattle.logs.specs.declared.Judged.{Judged}
 use Rattle.logs.specs.declared.Judged.the-variants as judging
-use Rattle.exports.specs.Answer.{refusal, ofRead, readAnswer, ofJudged, judgeAnswer}
+use Rattle.listing.specs.Lines.{eventLine, listSheet, listEvent}
+use Rattle.listing.specs.Entry.{listAnswer}
+use Rattle.listing.specs.declared.Listed.{Listed}
+use Rattle.listing.specs.declared.Listed.the-variants as listing
+use Rattle.listing.proofs.SheetLaid.{stage8, entries-closed}
+use Rattle.listing.proofs.Longest.{ListsWithin, listing-short}
+use Rattle.exports.specs.Answer.{refusal, ofCut, ofDecoded, ofSpelled, ofRead, readAnswer, ofJudged, judgeAnswer, ofListed, lineListed}
 
 -- ---- a pack
 
 abbrev pub SmallRead : LineRead → Type 0
-SmallRead (reading.Event f) = (f .nodes ≤ 4096) × (f .texts ≤ 24576)
+SmallRead (reading.Event f) = (f .nodes ≤ 4096) × (f .texts ≤ 24576) × (1 ≤ f .nodes)
 SmallRead reading.Blank = Unit {0}
 SmallRead (reading.Refused n) = Unit {0}
 
 abbrev Small : Answer → Type 0
 Small a = SmallRead (answerOf a)
 
+-- the entities have a node, whether there are any or not
+event-nodes : (e : Event) → 1 ≤ length (putEvent e emptyPack .kinds)
+event-nodes e = rw (entries-closed (e .entities) (stage8 e)) (simp length-append (omega arith))
+
 parsed-small : (s : List ℕ) (o : Outcome Event) → parseLine s ≡ o → leb (length s) lineLimit ≡ true → Small (eventOf o)
 parsed-small s (ok e) w h =
     let l : length s ≤ lineLimit = leb-true (length s) lineLimit h in
     let b = line-small s e w in
-    (omega (arith, b .0, l), omega (arith, b .1, l))
+    (omega (arith, b .0, l), omega (arith, b .1, l), event-nodes e)
 parsed-small s (refused n) w h = tt
 
 line-answer-small : (s : List ℕ) → Small (lineAnswer s)
@@ -118,6 +144,73 @@ judge-log-small s =
 pub judge-small : (s k n t : List ℕ) → SmallJudged (judgeAnswer s k n t)
 judge-small s k n t = both-arms SmallJudged (enough k n t) (judge-log-small s) (omega arith)
 
+-- ---- what was written: a count of places or bytes
+
+abbrev pub SmallCut : Cut → Type 0
+SmallCut (cut.Places n) = n ≤ 4096
+SmallCut (cut.Refused n) = Unit {0}
+
+-- no more places than bytes
+pub cut-small : (s : List ℕ) (room : ℕ) → SmallCut (cutBody s room)
+unfolding cutBody
+cut-small s room =
+    both-arms SmallCut (ltb textLimit (length s)) tt
+    (both-arms SmallCut (not (utf8 s)) tt
+    (by-cond SmallCut (ltb lineLimit (length s)) _ _ (λ h. tt)
+    (λ h. both-arms SmallCut (ltb room (length (cutPlaces s))) tt (omega (arith, ltb-false lineLimit (length s) h, cut-places-le s)))))
+
+abbrev pub SmallDecoded : Decoded → Type 0
+SmallDecoded (decoding.Written n) = n ≤ 65536
+SmallDecoded (decoding.Refused n) = Unit {0}
+
+-- decoding never lengthens
+pub decode-small : (s : List ℕ) (room : ℕ) → SmallDecoded (decoded s room)
+unfolding decoded
+decode-small s room =
+    by-cond SmallDecoded (leb (length s) textLimit) _ _
+    (λ h. both-arms SmallDecoded (utf8 s)
+    (both-arms SmallDecoded (leb (length (unescape s)) room) (omega (arith, leb-true (length s) textLimit h, unescape-length s)) tt) tt)
+    (λ h. tt)
+
+abbrev pub SmallSpelled : Spelled → Type 0
+SmallSpelled (spelling.Written n) = n ≤ 4096 + 4 + 6 * 4096
+SmallSpelled (spelling.Refused n) = Unit {0}
+
+-- a key is its type, four bytes around the escaped id, and at most six for each byte of the id
+key-short : (ty id : List ℕ) → length (entityUid pinned ty id) ≤ length ty + 4 + 6 * length id
+key-short ty id = simp length-append (omega (arith, escape-length pinned id))
+
+-- neither type nor id is longer than a line
+pub spell-small : (ty id : List ℕ) (room : ℕ) → SmallSpelled (spellKey ty id room)
+unfolding spellKey
+spell-small ty id room =
+    let t = ltb lineLimit (length ty) in
+    let i = ltb lineLimit (length id) in
+    both-arms SmallSpelled (ltb textLimit (length ty) || ltb textLimit (length id)) tt
+    (both-arms SmallSpelled (not (utf8 ty && utf8 id)) tt
+    (by-cond SmallSpelled (t || i) _ _ (λ h. tt)
+    (λ h. both-arms SmallSpelled (ltb room (length (entityUid pinned ty id))) tt
+    (omega (arith, ltb-false lineLimit (length ty) (or-none-left t i h), ltb-false lineLimit (length id) (or-none-right t i h), key-short ty id)))))
+
+abbrev pub SmallListed : Listed → Type 0
+SmallListed (listing.Written n) = (n ≤ 245867) × (1 ≤ n)
+SmallListed listing.Blank = Unit {0}
+SmallListed (listing.Refused n) = Unit {0}
+
+-- a listing begins with the word `event`
+listing-long : (number : ℕ) (e : Event) → 1 ≤ length (listEvent number e)
+unfolding listEvent listSheet eventLine
+listing-long number e = omega arith
+
+answer-listed : (number room : ℕ) (a : Answer) → ListsWithin 245867 number a → SmallListed (listAnswer number room a)
+answer-listed number room (event e) h = both-arms SmallListed (leb (length (listEvent number e)) room) (h, listing-long number e) tt
+answer-listed number room blank h = tt
+answer-listed number room (Answer.refused n) h = tt
+
+-- some bytes, and no more than the longest listing has
+pub list-small : (s : List ℕ) (number : ℕ) (k n t out : List ℕ) → SmallListed (lineListed s number k n t out)
+list-small s number k n t out = both-arms SmallListed (enough k n t) (answer-listed number (length out) (readLine s) (listing-short number s)) tt
+
 -- ---- taking numbers apart
 
 -- a pack's two sizes
@@ -129,9 +222,40 @@ sizes-apart f g a b h = (omega (arith, a .0, b .0, h), omega (arith, a .0, b .0,
 pub refusal-apart : (n line m other : ℕ) → n < 256 → m < 256 → ofJudged (judging.Refused n line) ≡ ofJudged (judging.Refused m other) → (n ≡ m) × (line ≡ other)
 refusal-apart n line m other a b h = (omega (arith, a, b, h), omega (arith, a, b, h))
 
--- no pack and no count is as large as a refusal
-pub pack-below : (f : Front) → SmallRead (reading.Event f) → ofRead (reading.Event f) < refusal 0
-pack-below f a = omega (arith, a .0, a .1)
+-- ---- no success is as large as a refusal
 
-pub count-below : (n : ℕ) → SmallJudged (judging.Accepted n) → ofJudged (judging.Accepted n) < refusal 0
-count-below n a = omega (arith, a)
+-- the places that cut a body
+pub cut-below : (s : List ℕ) (room n : ℕ) → cutBody s room ≡ cut.Places n → ofCut (cut.Places n) < refusal 0
+cut-below s room n e = omega (arith, subst SmallCut e (cut-small s room))
+
+-- the bytes that a text stands for
+pub decode-below : (s : List ℕ) (room n : ℕ) → decoded s room ≡ decoding.Written n → ofDecoded (decoding.Written n) < refusal 0
+decode-below s room n e = omega (arith, subst SmallDecoded e (decode-small s room))
+
+-- the bytes of a key
+pub spell-below : (ty id : List ℕ) (room n : ℕ) → spellKey ty id room ≡ spelling.Written n → ofSpelled (spelling.Written n) < refusal 0
+spell-below ty id room n e = omega (arith, subst SmallSpelled e (spell-small ty id room))
+
+-- the two sizes of a pack
+pub pack-below : (s k n t : List ℕ) (f : Front) → readAnswer s k n t ≡ reading.Event f → ofRead (reading.Event f) < refusal 0
+pack-below s k n t f e = let a = subst SmallRead e (read-small s k n t) in omega (arith, a .0, a .1)
+
+-- the events of a log
+pub count-below : (s k n t : List ℕ) (count : ℕ) → judgeAnswer s k n t ≡ judging.Accepted count → ofJudged (judging.Accepted count) < refusal 0
+count-below s k n t count e = omega (arith, subst SmallJudged e (judge-small s k n t))
+
+-- the bytes of a listing
+pub list-below : (s : List ℕ) (number : ℕ) (k n t out : List ℕ) (count : ℕ) → lineListed s number k n t out ≡ listing.Written count
+    → ofListed (listing.Written count) < refusal 0
+list-below s number k n t out count e = omega (arith, subst SmallListed e (list-small s number k n t out) .0)
+
+-- ---- no event is 0, the number of a blank line
+
+-- a pack has a node
+pub event-some : (s k n t : List ℕ) (f : Front) → readAnswer s k n t ≡ reading.Event f → 0 < ofRead (reading.Event f)
+event-some s k n t f e = omega (arith, subst SmallRead e (read-small s k n t) .2)
+
+-- a listing has a byte
+pub listing-some : (s : List ℕ) (number : ℕ) (k n t out : List ℕ) (count : ℕ) → lineListed s number k n t out ≡ listing.Written count
+    → 0 < ofListed (listing.Written count)
+listing-some s number k n t out count e = omega (arith, subst SmallListed e (list-small s number k n t out) .1)
