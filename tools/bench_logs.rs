@@ -52,7 +52,7 @@ struct Kind {
     line: fn(usize) -> String,
 }
 
-const KINDS: [Kind; 9] = [
+const KINDS: [Kind; 11] = [
     Kind {
         name: "typical",
         line: typical,
@@ -76,6 +76,14 @@ const KINDS: [Kind; 9] = [
     Kind {
         name: "many fields",
         line: many_fields,
+    },
+    Kind {
+        name: "a thousand arguments",
+        line: |i| format!("@{i} D::\"s\"::r({})", thousand_fields()),
+    },
+    Kind {
+        name: "a record of a thousand fields",
+        line: |i| format!("@{i} D::\"s\"::r(a:{{{}}})", thousand_fields()),
     },
     Kind {
         name: "long strings",
@@ -141,6 +149,15 @@ fn many_fields(i: usize) -> String {
         .map(|n| format!("field_{n}: {}", (n + i) % 50))
         .collect();
     format!("@{i} Dig::\"scan\"::request({})", fields.join(", "))
+}
+
+/// A thousand names of two letters or digits, in no order, without values: as many as a line has room for.
+fn thousand_fields() -> String {
+    let letter = |n: usize| char::from_digit(n as u32, 36).expect("below 36");
+    (0..1000)
+        .map(|n| n * 389 % 1000)
+        .map(|n| format!("{}{}:,", letter(n / 36), letter(n % 36)))
+        .collect()
 }
 
 fn long_strings(i: usize) -> String {
