@@ -111,6 +111,14 @@ fn sorted() -> Vec<String> {
         lines.push(format!("@0 entities({}){HEAD}()", all(&entry)));
         lines.push(format!("@0 entities(A::\"a\":{{{fields}}}){HEAD}(b:1,a:2)"));
     }
+    // As many fields as a line has room for. Each once, for 389 and 1,000 have no common factor.
+    let letter = |n: u32| char::from_digit(n, 36).expect("below 36");
+    let thousand: String = (0..1000)
+        .map(|n| n * 389 % 1000)
+        .map(|n| format!("{}{}:,", letter(n / 36), letter(n % 36)))
+        .collect();
+    lines.push(format!("@0 {HEAD}({thousand})"));
+    lines.push(format!("@0 {HEAD}(v:{{{thousand}}})"));
     // Records in records: each is sorted while the outer ones are.
     let mut inner = "{b:1,a:2}".to_string();
     for _ in 0..40 {

@@ -25,6 +25,7 @@ use Rattle.values.specs.Parse.{Result, done, refused, parse}
 use Rattle.heads.specs.Outcome.{Outcome, ok}
 use Rattle.entities.specs.Entries.{Entries, noEntry, entry, countEntries, storedKeys}
 use Rattle.entities.specs.Parse.{Key, Entry, onlyRecord, allParents, onlyKey, parseEntityParents, unlessStored, entryParts, entryClosed, entryOpened, endsInColon, beforeRecord, keyText, parseEntry, onto, parseEntries, parseEntities}
+use Rattle.entities.proofs.EntryLaws.{no-entries}
 use Rattle.entities.proofs.KeyTexts.{Other, read-at, key-entity, other-parse}
 use Rattle.events.specs.Event.{Event}
 use Rattle.events.specs.Line.{Behind, begins, entitiesWord, envelopeAt, parseEntitiesEnvelope, parseLine}
@@ -140,10 +141,6 @@ entered before (x ∷ xs) es e =
     (entered-more x xs (a .part) (b .part) (entry-key before (a .part) x (a .first)) (entered _ xs (b .part) (b .first)))
 
 -- ---- of a line
-
-no-entries : parseEntities [] ≡ ok noEntry
-unfolding parseEntities parseEntries parts full splitTopLevel splitFrom trimFrom trimEnd
-no-entries = refl
 
 closed-body : (s : List ℕ) (f : Found) (en : Behind Entries) → envelopeAt parseEntities entitiesUnclosed s f ≡ ok en → parseEntities (upTo f s) ≡ ok (en .part)
 closed-body s Nothing en e = absurd (never e)
