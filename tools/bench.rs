@@ -1,4 +1,4 @@
-//! Times the proved functions beside the Rust's, both in this process and on the same inputs.
+//! Times the product's functions beside the Rust's, both in this process and on the same inputs.
 //! Each row is first checked: both sides must give the same answer. Then they run in turns, and the least time of each counts,
 //! since the machine is shared. Prints a Markdown table; a ratio above 1 means that ours is faster.
 
@@ -12,7 +12,7 @@ use oracle::value::entity_uid_string;
 use std::hint::black_box;
 use std::time::{Duration, Instant};
 
-/// The exported functions, and those for measuring alone (crate `bench_hooks`).
+/// The entry points, and inner functions that are exported for measuring alone (`bench_inner.rt.txt`).
 mod ours {
     mod c {
         unsafe extern "C" {
