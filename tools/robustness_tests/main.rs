@@ -50,6 +50,24 @@ fn inputs(t: &mut Tester) {
     }
 }
 
+/// Refused logs: one line, whatever events stand before, with the number of the line met first.
+fn refused_logs(t: &mut Tester) {
+    let event = EXAMPLE.trim_end();
+    for (log, answer) in [
+        ("x".to_string(), "refused 10 line 1\n"),
+        (format!("{event}\n{event}\n@x"), "refused 11 line 3\n"),
+        (format!("\u{feff}\n \t\r\n{event}\r\n@1 a"), "refused 16 line 4\n"),
+        (format!("{event}\n\u{feff}{event}"), "refused 10 line 2\n"),
+        (format!("@+ {event}\n@"), "refused 12 line 1\n"),
+        (format!("{event}\n@1 {}", "x".repeat(LINE)), "refused 4 line 2\n"),
+        ("\n".repeat(LOG + 1), "refused 2 line 0\n"),
+    ] {
+        t.listed(answer, log.as_bytes(), answer.as_bytes());
+    }
+    let damaged = [event.as_bytes(), b"\n\xff"].concat();
+    t.listed("not UTF-8", &damaged, b"refused 3 line 0\n");
+}
+
 fn pieces(t: &mut Tester) {
     t.pipe_of_bytes("single bytes through a pipe", &log_of(2_000));
     t.pipe_of_bytes("single bytes, refused", b"@40 a::\"b\"::c(\n");
@@ -134,6 +152,7 @@ fn main() {
         failed: 0,
     };
     inputs(&mut tester);
+    refused_logs(&mut tester);
     pieces(&mut tester);
     shut_outputs(&mut tester, "an event", EXAMPLE.as_bytes());
     shut_outputs(&mut tester, "a long log", &log_of(LOG));
