@@ -30,6 +30,9 @@ extern "C" {
 /* The least entries of a pack's kinds and of its numbers, and of its text bytes: refusal 1 below this. A longer table is used this far. */
 #define LULZHEMOR_NODES 8192
 #define LULZHEMOR_TEXTS 32768
+/* A listing's output of so many bytes is never refused with 5: no event lists in more, by the law `line-short` in
+ * crates/listing/proofs/Longest.antt. */
+#define LULZHEMOR_LISTING_ROOM 245867
 
 /* ---- Answers ----
  * One number each. A success is below LULZHEMOR_REFUSED, a refusal is LULZHEMOR_REFUSED and its number, and from lulzhemor_judge 256 times
@@ -49,39 +52,78 @@ static inline uint32_t lulzhemor_refusal_line(uint64_t answer) { return (uint32_
 static inline uint32_t lulzhemor_pack_nodes(uint64_t answer) { return (uint32_t)(answer & 65535); }
 static inline uint32_t lulzhemor_pack_texts(uint64_t answer) { return (uint32_t)(answer >> 16); }
 
+/* What each stands for: lulzhemor_refusal_text. */
 enum lulzhemor_refusal {
-    LULZHEMOR_TABLE_TOO_SHORT = 1,         /* a pack table is shorter than its bound */
-    LULZHEMOR_TEXT_TOO_LONG = 2,           /* a text has over 65,536 bytes */
-    LULZHEMOR_NOT_UTF8 = 3,                /* a text is not UTF-8 */
-    LULZHEMOR_LINE_TOO_LONG = 4,           /* a trimmed line, body, id or type has over 4,096 bytes */
-    LULZHEMOR_OUTPUT_TOO_SHORT = 5,        /* the output holds less than the answer needs */
-    LULZHEMOR_NO_AT = 10,                  /* a line does not begin with @ */
-    LULZHEMOR_NO_SPACE_AFTER_TIME = 11,    /* no whitespace after the timestamp */
-    LULZHEMOR_BAD_TIME = 12,               /* the timestamp is not an i64 */
-    LULZHEMOR_SCOPE_UNCLOSED = 13,         /* scope without ) */
-    LULZHEMOR_ENTITIES_UNCLOSED = 14,      /* entities without ) */
-    LULZHEMOR_CONTEXT_UNCLOSED = 15,       /* request_context without ) */
-    LULZHEMOR_EVENT_UNOPENED = 16,         /* event without ( */
-    LULZHEMOR_EVENT_UNCLOSED = 17,         /* event without ) */
-    LULZHEMOR_EVENT_OUT_OF_ORDER = 18,     /* the last ) stands before the first ( */
-    LULZHEMOR_NO_ACTION = 19,              /* head without quoted id */
-    LULZHEMOR_ACTION_UNTERMINATED = 20,    /* the head's id is unterminated */
-    LULZHEMOR_NO_KIND = 21,                /* head without ::kind */
-    LULZHEMOR_ARGUMENT_WITHOUT_COLON = 22, /* argument without : */
-    LULZHEMOR_DUPLICATE_ARGUMENT = 23,     /* an argument group has a field twice */
-    LULZHEMOR_VALUE_TOO_DEEP = 24,         /* a value is deeper than 128 */
-    LULZHEMOR_FIELD_WITHOUT_COLON = 25,    /* record field without : */
-    LULZHEMOR_DUPLICATE_FIELD = 26,        /* a record has a field twice */
-    LULZHEMOR_ENTRY_WITHOUT_RECORD = 27,   /* entities entry without { */
-    LULZHEMOR_ENTRY_WITHOUT_COLON = 28,    /* no : before an entry's { */
-    LULZHEMOR_ENTRY_UNTERMINATED = 29,     /* an entry's { is unterminated */
-    LULZHEMOR_TEXT_AFTER_RECORD = 30,      /* text after an entry's record that does not begin with `in` */
-    LULZHEMOR_PARENTS_NOT_BRACKETED = 31,  /* parents not in brackets */
-    LULZHEMOR_PARENT_NO_ENTITY = 32,       /* a parent is no entity */
-    LULZHEMOR_KEY_NO_ENTITY = 33,          /* an entry's key is no entity */
-    LULZHEMOR_DUPLICATE_KEY = 34,          /* two entries have one key */
-    LULZHEMOR_ENTRY_NOT_A_RECORD = 35      /* an entry's value is no record */
+    LULZHEMOR_TABLE_TOO_SHORT = 1,
+    LULZHEMOR_TEXT_TOO_LONG = 2,
+    LULZHEMOR_NOT_UTF8 = 3,
+    LULZHEMOR_LINE_TOO_LONG = 4,
+    LULZHEMOR_OUTPUT_TOO_SHORT = 5,
+    LULZHEMOR_NO_AT = 10,
+    LULZHEMOR_NO_SPACE_AFTER_TIME = 11,
+    LULZHEMOR_BAD_TIME = 12,
+    LULZHEMOR_SCOPE_UNCLOSED = 13,
+    LULZHEMOR_ENTITIES_UNCLOSED = 14,
+    LULZHEMOR_CONTEXT_UNCLOSED = 15,
+    LULZHEMOR_EVENT_UNOPENED = 16,
+    LULZHEMOR_EVENT_UNCLOSED = 17,
+    LULZHEMOR_EVENT_OUT_OF_ORDER = 18,
+    LULZHEMOR_NO_ACTION = 19,
+    LULZHEMOR_ACTION_UNTERMINATED = 20,
+    LULZHEMOR_NO_KIND = 21,
+    LULZHEMOR_ARGUMENT_WITHOUT_COLON = 22,
+    LULZHEMOR_DUPLICATE_ARGUMENT = 23,
+    LULZHEMOR_VALUE_TOO_DEEP = 24,
+    LULZHEMOR_FIELD_WITHOUT_COLON = 25,
+    LULZHEMOR_DUPLICATE_FIELD = 26,
+    LULZHEMOR_ENTRY_WITHOUT_RECORD = 27,
+    LULZHEMOR_ENTRY_WITHOUT_COLON = 28,
+    LULZHEMOR_ENTRY_UNTERMINATED = 29,
+    LULZHEMOR_TEXT_AFTER_RECORD = 30,
+    LULZHEMOR_PARENTS_NOT_BRACKETED = 31,
+    LULZHEMOR_PARENT_NO_ENTITY = 32,
+    LULZHEMOR_KEY_NO_ENTITY = 33,
+    LULZHEMOR_DUPLICATE_KEY = 34,
+    LULZHEMOR_ENTRY_NOT_A_RECORD = 35
 };
+
+/* A refusal in words, as docs/MANUAL.md has it; its table has a remedy for each. */
+static inline const char *lulzhemor_refusal_text(unsigned refusal) {
+    switch (refusal) {
+    case LULZHEMOR_TABLE_TOO_SHORT: return "a pack table is too short";
+    case LULZHEMOR_TEXT_TOO_LONG: return "the text has over 65,536 bytes";
+    case LULZHEMOR_NOT_UTF8: return "the text is not UTF-8";
+    case LULZHEMOR_LINE_TOO_LONG: return "a trimmed line (or a body, id or type) has over 4,096 bytes";
+    case LULZHEMOR_OUTPUT_TOO_SHORT: return "the output is too short for the answer";
+    case LULZHEMOR_NO_AT: return "the line does not begin with @";
+    case LULZHEMOR_NO_SPACE_AFTER_TIME: return "no whitespace behind the time";
+    case LULZHEMOR_BAD_TIME: return "the time is no whole number within its bounds";
+    case LULZHEMOR_SCOPE_UNCLOSED: return "scope( has no )";
+    case LULZHEMOR_ENTITIES_UNCLOSED: return "entities( has no matching )";
+    case LULZHEMOR_CONTEXT_UNCLOSED: return "request_context( has no matching )";
+    case LULZHEMOR_EVENT_UNOPENED: return "the event has no (";
+    case LULZHEMOR_EVENT_UNCLOSED: return "the event has no )";
+    case LULZHEMOR_EVENT_OUT_OF_ORDER: return "the last ) stands before the first (";
+    case LULZHEMOR_NO_ACTION: return "no quoted action";
+    case LULZHEMOR_ACTION_UNTERMINATED: return "the action has no closing quote";
+    case LULZHEMOR_NO_KIND: return "no kind";
+    case LULZHEMOR_ARGUMENT_WITHOUT_COLON: return "a field of a group has no :";
+    case LULZHEMOR_DUPLICATE_ARGUMENT: return "a group has a name twice";
+    case LULZHEMOR_VALUE_TOO_DEEP: return "a value is more than 128 deep";
+    case LULZHEMOR_FIELD_WITHOUT_COLON: return "a field of a record has no :";
+    case LULZHEMOR_DUPLICATE_FIELD: return "a record has a name twice";
+    case LULZHEMOR_ENTRY_WITHOUT_RECORD: return "an entry has no {";
+    case LULZHEMOR_ENTRY_WITHOUT_COLON: return "no : directly before the entry's {";
+    case LULZHEMOR_ENTRY_UNTERMINATED: return "the entry's { is not closed";
+    case LULZHEMOR_TEXT_AFTER_RECORD: return "text behind the entry's record that does not begin with the word in";
+    case LULZHEMOR_PARENTS_NOT_BRACKETED: return "the parents are not in brackets";
+    case LULZHEMOR_PARENT_NO_ENTITY: return "a parent is no entity";
+    case LULZHEMOR_KEY_NO_ENTITY: return "an entry's key is no entity";
+    case LULZHEMOR_DUPLICATE_KEY: return "two entries have one key";
+    case LULZHEMOR_ENTRY_NOT_A_RECORD: return "an entry's value is no record";
+    default: return "unknown refusal";
+    }
+}
 
 /* ---- The pack ----
  * An event as nodes, each a kind and a number, in this order: time, principal, resource, namespace (an array of texts), action, kind,

@@ -138,6 +138,37 @@ static void listing(void) {
     CHECK(r == LULZHEMOR_REFUSED + LULZHEMOR_TABLE_TOO_SHORT && untouched() && wrote(""));
 }
 
+/* A text with so many copies of another at a place of it. */
+static size_t widened(uint8_t *to, const char *before, const char *each, size_t times, const char *behind) {
+    size_t n = strlen(before);
+    memcpy(to, before, n);
+    for (size_t i = 0; i < times; i++, n += strlen(each)) memcpy(to + n, each, strlen(each));
+    memcpy(to + n, behind, strlen(behind));
+    return n + strlen(behind);
+}
+
+/* The longest line, whose every character lists as six. */
+static void long_listing(void) {
+    static uint8_t line[LULZHEMOR_LINE_LIMIT], expected[8 * LULZHEMOR_LINE_LIMIT], room[LULZHEMOR_LISTING_ROOM];
+    size_t wide = sizeof line - strlen("@1 ::\"\"::k(:)");
+    CHECK(widened(line, "@1 ::\"\"::k(", "\x7f", wide, ":)") == sizeof line);
+    size_t n = widened(expected, "event 18446744073709551615 at 1\nname \"\"\naction \"\"\nkind \"k\"\nlogged {\"", "\\u{7f}", wide,
+                       "\":s\"\"}\ncontext {}\n");
+    CHECK(lulzhemor_list_line(TABLES, room, sizeof room, line, sizeof line, UINT64_MAX) == n && memcmp(room, expected, n) == 0);
+}
+
+static bool is_refusal(unsigned n) { return (n >= 1 && n <= 5) || (n >= 10 && n <= 35); }
+
+/* Each number has a text of its own; all others share one. */
+static void refusal_texts(void) {
+    const char *unknown = lulzhemor_refusal_text(0);
+    CHECK(strcmp(unknown, "unknown refusal") == 0);
+    for (unsigned n = 1; n <= 300; n++) CHECK((strcmp(lulzhemor_refusal_text(n), unknown) != 0) == is_refusal(n));
+    for (unsigned n = 1; n <= 35; n++)
+        for (unsigned m = 1; is_refusal(n) && m < n; m++) CHECK(strcmp(lulzhemor_refusal_text(n), lulzhemor_refusal_text(m)) != 0);
+    CHECK(strcmp(lulzhemor_refusal_text(LULZHEMOR_EVENT_OUT_OF_ORDER), "the last ) stands before the first (") == 0);
+}
+
 static void texts_alone(void) {
     CHECK(lulzhemor_is_utf8(BYTES("K\xc3\xa9")) && !lulzhemor_is_utf8(BYTES("K\xc3")));
     uint64_t places[3] = {77, 77, 77};
@@ -158,6 +189,8 @@ int main(void) {
     judging();
     reading();
     listing();
+    long_listing();
+    refusal_texts();
     texts_alone();
     printf("%u checks\nok\n", checks);
     return 0;

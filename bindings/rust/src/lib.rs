@@ -24,6 +24,8 @@ pub use refusal::{Refusal, RefusedLine};
 pub const TEXT_LIMIT: usize = 65_536;
 /// A trimmed line, a body, an id or a type, in bytes: [`Refusal::LINE_TOO_LONG`] above this.
 pub const LINE_LIMIT: usize = 4_096;
+/// An output of so many bytes holds every listing of [`Tables::list_line`], which is proved: [`Refusal::OUTPUT_TOO_SHORT`] is not met.
+pub const LISTING_ROOM: usize = 245_867;
 
 /// Refusal n passes as this number and n; no success is as large.
 const REFUSED: u64 = 1 << 32;

@@ -19,7 +19,7 @@ macro_rules! refusals {
         impl Refusal {
             $(#[doc = $text] pub const $name: Refusal = Refusal($number);)*
 
-            /// What the number stands for.
+            /// What the number stands for, as the header for C and `docs/MANUAL.md` have it.
             pub fn message(self) -> &'static str {
                 match self.0 {
                     $($number => $text,)*
@@ -34,34 +34,34 @@ refusals! {
     TABLE_TOO_SHORT = 1, "a pack table is too short";
     TEXT_TOO_LONG = 2, "the text has over 65,536 bytes";
     NOT_UTF8 = 3, "the text is not UTF-8";
-    LINE_TOO_LONG = 4, "a trimmed line, body, id or type has over 4,096 bytes";
-    OUTPUT_TOO_SHORT = 5, "the output holds less than the answer needs";
+    LINE_TOO_LONG = 4, "a trimmed line (or a body, id or type) has over 4,096 bytes";
+    OUTPUT_TOO_SHORT = 5, "the output is too short for the answer";
     NO_AT = 10, "the line does not begin with @";
-    NO_SPACE_AFTER_TIME = 11, "no whitespace after the timestamp";
-    BAD_TIME = 12, "the timestamp is not an i64";
-    SCOPE_UNCLOSED = 13, "scope without )";
-    ENTITIES_UNCLOSED = 14, "entities without )";
-    CONTEXT_UNCLOSED = 15, "request_context without )";
-    EVENT_UNOPENED = 16, "event without (";
-    EVENT_UNCLOSED = 17, "event without )";
+    NO_SPACE_AFTER_TIME = 11, "no whitespace behind the time";
+    BAD_TIME = 12, "the time is no whole number within its bounds";
+    SCOPE_UNCLOSED = 13, "scope( has no )";
+    ENTITIES_UNCLOSED = 14, "entities( has no matching )";
+    CONTEXT_UNCLOSED = 15, "request_context( has no matching )";
+    EVENT_UNOPENED = 16, "the event has no (";
+    EVENT_UNCLOSED = 17, "the event has no )";
     EVENT_OUT_OF_ORDER = 18, "the last ) stands before the first (";
-    NO_ACTION = 19, "head without quoted id";
-    ACTION_UNTERMINATED = 20, "the id of the head is unterminated";
-    NO_KIND = 21, "head without ::kind";
-    ARGUMENT_WITHOUT_COLON = 22, "argument without :";
-    DUPLICATE_ARGUMENT = 23, "an argument group has a field twice";
-    VALUE_TOO_DEEP = 24, "a value is deeper than 128";
-    FIELD_WITHOUT_COLON = 25, "record field without :";
-    DUPLICATE_FIELD = 26, "a record has a field twice";
-    ENTRY_WITHOUT_RECORD = 27, "entry without {";
-    ENTRY_WITHOUT_COLON = 28, "no : before the { of an entry";
-    ENTRY_UNTERMINATED = 29, "the { of an entry is unterminated";
-    TEXT_AFTER_RECORD = 30, "text after the record of an entry";
-    PARENTS_NOT_BRACKETED = 31, "parents not in brackets";
+    NO_ACTION = 19, "no quoted action";
+    ACTION_UNTERMINATED = 20, "the action has no closing quote";
+    NO_KIND = 21, "no kind";
+    ARGUMENT_WITHOUT_COLON = 22, "a field of a group has no :";
+    DUPLICATE_ARGUMENT = 23, "a group has a name twice";
+    VALUE_TOO_DEEP = 24, "a value is more than 128 deep";
+    FIELD_WITHOUT_COLON = 25, "a field of a record has no :";
+    DUPLICATE_FIELD = 26, "a record has a name twice";
+    ENTRY_WITHOUT_RECORD = 27, "an entry has no {";
+    ENTRY_WITHOUT_COLON = 28, "no : directly before the entry's {";
+    ENTRY_UNTERMINATED = 29, "the entry's { is not closed";
+    TEXT_AFTER_RECORD = 30, "text behind the entry's record that does not begin with the word in";
+    PARENTS_NOT_BRACKETED = 31, "the parents are not in brackets";
     PARENT_NO_ENTITY = 32, "a parent is no entity";
-    KEY_NO_ENTITY = 33, "the key of an entry is no entity";
+    KEY_NO_ENTITY = 33, "an entry's key is no entity";
     DUPLICATE_KEY = 34, "two entries have one key";
-    ENTRY_NOT_A_RECORD = 35, "the value of an entry is no record";
+    ENTRY_NOT_A_RECORD = 35, "an entry's value is no record";
 }
 
 impl fmt::Display for Refusal {

@@ -117,7 +117,7 @@ fn a_log_is_judged_and_its_lines_are_read() {
         line: 4,
     };
     assert_eq!(tables.judge(format!("{log}@3 x").as_bytes()), Err(refused));
-    assert_eq!(refused.to_string(), "refused 16 line 4: event without (");
+    assert_eq!(refused.to_string(), "refused 16 line 4: the event has no (");
     let whole = RefusedLine {
         refusal: Refusal::TEXT_TOO_LONG,
         line: 0,
@@ -175,4 +175,21 @@ fn texts_are_cut_decoded_and_spelled() {
         lulzhemor::spell_key(&mut out, b"Cell", &[b'a'; 4097]),
         Err(Refusal::LINE_TOO_LONG)
     );
+}
+
+/// The longest line, whose every character lists as six.
+#[test]
+fn a_long_listing_has_room() {
+    let wide = lulzhemor::LINE_LIMIT - r#"@1 ::""::k(:)"#.len();
+    let line = format!(r#"@1 ::""::k({}:)"#, "\u{7f}".repeat(wide));
+    let listing = format!(
+        "event {} at 1\nname \"\"\naction \"\"\nkind \"k\"\nlogged {{\"{}\":s\"\"}}\ncontext {{}}\n",
+        u64::MAX,
+        r"\u{7f}".repeat(wide)
+    );
+    let mut out = vec![0; lulzhemor::LISTING_ROOM];
+    let written = Tables::new()
+        .list_line(&mut out, line.as_bytes(), u64::MAX)
+        .map(|listing| listing.map(str::to_string));
+    assert_eq!(written, Ok(Some(listing)));
 }

@@ -1,0 +1,56 @@
+//! What the header for C says too: refusals by name, number and text, and the bounds.
+
+use lulzhemor::Refusal;
+use std::collections::BTreeMap;
+
+const HEADER: &str = include_str!("../../c/lulzhemor.h");
+
+/// The header's refusals: each number with its text.
+fn refusals() -> BTreeMap<u8, String> {
+    let (_, below) = HEADER
+        .split_once("enum lulzhemor_refusal {")
+        .expect("the enum");
+    let (rows, below) = below.split_once("};").expect("its end");
+    let numbers: BTreeMap<&str, u8> = rows
+        .lines()
+        .filter_map(|row| row.trim().trim_end_matches(',').split_once(" = "))
+        .map(|(name, number)| (name, number.parse().expect("a number")))
+        .collect();
+    let texts = below.lines().filter_map(|row| {
+        let (name, text) = row
+            .trim()
+            .strip_prefix("case ")?
+            .split_once(": return \"")?;
+        Some((numbers[name], text.strip_suffix("\";")?.to_string()))
+    });
+    texts.collect()
+}
+
+#[test]
+fn each_refusal_has_the_text_of_the_header() {
+    let texts = refusals();
+    assert_eq!(texts.len(), 31);
+    for number in 0..=255 {
+        let known = (1..=5).contains(&number) || (10..=35).contains(&number);
+        let text = texts.get(&number).map(String::as_str);
+        assert_eq!(text.is_some(), known, "{number}");
+        let text = text.unwrap_or("unknown refusal");
+        assert_eq!(Refusal(number).message(), text);
+        assert_eq!(
+            Refusal(number).to_string(),
+            format!("refused {number}: {text}")
+        );
+    }
+}
+
+#[test]
+fn the_bounds_are_those_of_the_header() {
+    for (name, bound) in [
+        ("TEXT_LIMIT", lulzhemor::TEXT_LIMIT),
+        ("LINE_LIMIT", lulzhemor::LINE_LIMIT),
+        ("LISTING_ROOM", lulzhemor::LISTING_ROOM),
+    ] {
+        let row = format!("#define LULZHEMOR_{name} {bound}\n");
+        assert!(HEADER.contains(&row), "{name}");
+    }
+}
