@@ -1,2 +1,3 @@
 pub mod Wrote
 pub mod Same
+pub mod Ascii

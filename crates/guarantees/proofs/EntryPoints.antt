@@ -28,6 +28,10 @@ use Rattle.listing.specs.Entry as Listing
 use Rattle.listing.proofs.list_line
 use Rattle.listing.proofs.list_line.Met as ListLine
 use Rattle.listing.proofs.list_line.Symbol as ListLineCode
+use Rattle.log_listing.specs.Stretch.{pieceAt, Written, Onward}
+use Rattle.log_listing.proofs.next_stretch
+use Rattle.log_listing.proofs.next_stretch.Met as NextStretch
+use Rattle.log_listing.proofs.next_stretch.Symbol as NextStretchCode
 use Rattle.guarantees.specs.Promised.{Promised, PromisedBoth}
 
 -- 1. Decode escapes: `decode(out, text)`. The answer is what `decoded` says of the text and the output's length; the whole output is then
@@ -64,3 +68,10 @@ pub list-line-promised : {M : Type 1} → Promised list_line.ended ListLineCode.
     Listing.Whole (now (a .1 .1 .1 .1 .0)) (a .1 .1 .1 .1 .1 .0) (now (a .0)) (now (a .1 .0)) (now (a .1 .1 .0)) (now (a .1 .1 .1 .0)) r
     (now (s .0)) (now (s .1 .0)) (now (s .1 .1 .0)) (now (s .1 .1 .1 .0)))
 list-line-promised = ListLine.met
+
+-- 7. The next stretch of a log's night listing, which the program calls: `next_stretch(kinds, numbers, texts, links, scratch, order, spare,
+-- out, log, place)`. `Written` gives the answer, and every byte of the output; `Onward` what a loop over the calls needs.
+pub next-stretch-promised : {M : Type 1} → PromisedBoth next_stretch.ended NextStretchCode.routine M
+    (λ κs a r s. Written (pieceAt (now (a .1 .1 .1 .1 .1 .1 .1 .1 .0)) (a .1 .1 .1 .1 .1 .1 .1 .1 .1 .0)) (now (a .1 .1 .1 .1 .1 .1 .1 .0)) r (now (s .1 .1 .1 .1 .1 .1 .1 .0)))
+    (λ κs a r s. Onward (now (a .1 .1 .1 .1 .1 .1 .1 .1 .0)) (a .1 .1 .1 .1 .1 .1 .1 .1 .1 .0) r (now (s .1 .1 .1 .1 .1 .1 .1 .0)))
+next-stretch-promised = NextStretch.met

@@ -1,6 +1,7 @@
 pub mod EntryPoints
 pub mod Agreement
 pub mod PackKeys
+pub mod NightListing
 pub mod ProofSet
 pub mod StoredKeys
 mod LineTexts
@@ -10,5 +11,6 @@ mod Left
 mod Laying
 mod Standing
 mod EntryReading
+mod Stretched
 mod Facts
 mod Examples

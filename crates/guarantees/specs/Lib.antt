@@ -3,3 +3,4 @@ pub mod Lines
 pub mod Calls
 pub mod ProofSet
 pub mod Promised
+pub mod Stretches
