@@ -1,116 +1,154 @@
-// The pack tables after a call, beside the oracle's pack. Every entry was 77 when they were lent.
+// The pack tables that are lent, every entry 77, and what they then hold beside the oracle's pack.
+use crate::answers;
+use crate::control;
 use crate::little;
+use format::Front;
 use format::Log;
 use format::Refusal;
 
-// The numbers of the first nodes, eight bytes each from a place of the answer on.
-fn same_numbers(numbers: &[u64], nodes: usize, answer: &[u8], from: usize) -> bool {
-    if nodes > numbers.len() {
-        return false;
+// Longer than what a call uses, so that a call that goes too far shows.
+pub const KINDS: usize = 8_193;
+
+pub const NUMBERS: usize = 8_195;
+
+pub const TEXTS: usize = 32_775;
+
+// How many first entries of each table are lent.
+pub struct Lent {
+    pub kinds: usize,
+    pub numbers: usize,
+    pub texts: usize,
+}
+
+impl Lent {
+    pub fn has(op: usize) -> bool {
+        (op > 0) & (op < 6)
     }
-    let mut i: usize = 0;
-    while i < nodes {
-        if numbers[i] != little::eight(answer, little::along(from, i * 8)) {
-            return false;
+
+    // Ops 1 to 5: longer than used, just so long as used, and an entry short of one.
+    pub fn by_op(op: usize) -> Lent {
+        match op {
+            1 => Lent {
+                kinds: 8_193,
+                numbers: 8_195,
+                texts: 32_775,
+            },
+            3 => Lent {
+                kinds: 8_191,
+                numbers: 8_192,
+                texts: 32_768,
+            },
+            4 => Lent {
+                kinds: 8_192,
+                numbers: 8_191,
+                texts: 32_768,
+            },
+            5 => Lent {
+                kinds: 8_192,
+                numbers: 8_192,
+                texts: 32_767,
+            },
+            _ => Lent {
+                kinds: 8_192,
+                numbers: 8_192,
+                texts: 32_768,
+            },
         }
-        i += 1;
     }
-    true
 }
 
 // 1, node count, text byte count, then kinds, numbers and texts.
 pub fn same_pack(
-    kinds: &[u8],
-    numbers: &[u64],
-    texts: &[u8],
-    nodes: usize,
-    count: usize,
+    kinds: &[u8; KINDS],
+    numbers: &[u64; NUMBERS],
+    texts: &[u8; TEXTS],
+    front: Front,
     answer: &[u8],
 ) -> bool {
-    if little::byte(answer, 0) != 1 {
-        return false;
-    }
-    if little::four(answer, 1) != (nodes as u64) {
-        return false;
-    }
-    if little::four(answer, 5) != (count as u64) {
-        return false;
-    }
+    let nodes = front.nodes;
+    let count = front.texts;
     let behind_kinds = little::along(9, nodes);
     let behind_numbers = little::along(behind_kinds, nodes % 65_536 * 8);
-    if answer.len() != little::along(behind_numbers, count) {
-        return false;
-    }
-    if !buffers::same(little::prefix(kinds, nodes), little::part(answer, 9, nodes)) {
-        return false;
-    }
-    if !same_numbers(numbers, nodes, answer, behind_kinds) {
-        return false;
-    }
-    buffers::same(
-        little::prefix(texts, count),
-        little::part(answer, behind_numbers, count),
-    )
-}
-
-// Is every byte from one place up to another this one?
-pub fn all_bytes(s: &[u8], from: usize, to: usize, b: u8) -> bool {
-    if to > s.len() {
-        return false;
-    }
-    let mut i = from;
-    while i < to {
-        if s[i] != b {
-            return false;
-        }
-        i += 1;
-    }
-    true
-}
-
-fn all_numbers(s: &[u64], from: usize, to: usize, n: u64) -> bool {
-    if to > s.len() {
-        return false;
-    }
-    let mut i = from;
-    while i < to {
-        if s[i] != n {
-            return false;
-        }
-        i += 1;
-    }
-    true
+    (little::byte(answer, 0) == 1)
+        & (little::four(answer, 1) == (nodes as u64))
+        & (little::four(answer, 5) == (count as u64))
+        & (answer.len() == little::along(behind_numbers, count))
+        & buffers::same(little::prefix(kinds, nodes), little::part(answer, 9, nodes))
+        & answers::same_numbers(numbers, nodes, answer, behind_kinds)
+        & buffers::same(
+            little::prefix(texts, count),
+            little::behind(answer, behind_numbers),
+        )
 }
 
 // Are the tables as they were lent, from these places on?
-fn untouched(kinds: &[u8], numbers: &[u64], texts: &[u8], nodes: usize, count: usize) -> bool {
-    if !all_bytes(kinds, nodes, kinds.len(), 77) {
-        return false;
-    }
-    if !all_numbers(numbers, nodes, numbers.len(), 77) {
-        return false;
-    }
-    all_bytes(texts, count, texts.len(), 77)
+fn untouched(
+    kinds: &[u8; KINDS],
+    numbers: &[u64; NUMBERS],
+    texts: &[u8; TEXTS],
+    nodes: usize,
+    count: usize,
+    wrong: usize,
+) -> bool {
+    answers::all_bytes(
+        kinds,
+        nodes,
+        KINDS,
+        control::lent(wrong, control::KINDS_LENT),
+    )
+        & answers::all_numbers(
+            numbers,
+            nodes,
+            NUMBERS,
+            little::wide(control::lent(wrong, control::NUMBERS_LENT)),
+        )
+        & answers::all_bytes(
+            texts,
+            count,
+            TEXTS,
+            control::lent(wrong, control::TEXTS_LENT),
+        )
 }
 
-// Zeros from these places on as far as the tables are used, and behind that nothing changed?
-pub fn cleared(kinds: &[u8], numbers: &[u64], texts: &[u8], nodes: usize, count: usize) -> bool {
-    if !all_bytes(kinds, nodes, Log::NODES, 0) {
-        return false;
-    }
-    if !all_numbers(numbers, nodes, Log::NODES, 0) {
-        return false;
-    }
-    if !all_bytes(texts, count, Log::TEXTS, 0) {
-        return false;
-    }
-    untouched(kinds, numbers, texts, Log::NODES, Log::TEXTS)
+// Zeros behind a front as far as the tables are used, and behind that nothing changed?
+pub fn cleared(
+    kinds: &[u8; KINDS],
+    numbers: &[u64; NUMBERS],
+    texts: &[u8; TEXTS],
+    front: Front,
+    wrong: usize,
+) -> bool {
+    answers::all_bytes(
+        kinds,
+        front.nodes,
+        Log::NODES,
+        control::cleared(wrong, control::KINDS_CLEARED),
+    )
+        & answers::all_numbers(
+            numbers,
+            front.nodes,
+            Log::NODES,
+            little::wide(control::cleared(wrong, control::NUMBERS_CLEARED)),
+        )
+        & answers::all_bytes(
+            texts,
+            front.texts,
+            Log::TEXTS,
+            control::cleared(wrong, control::TEXTS_CLEARED),
+        )
+        & untouched(kinds, numbers, texts, Log::NODES, Log::TEXTS, wrong)
 }
 
 // What a refusal leaves: tables that are too short as they were, others cleared.
-pub fn left_by(refusal: u8, kinds: &[u8], numbers: &[u64], texts: &[u8]) -> bool {
+pub fn left_by(
+    refusal: u8,
+    kinds: &[u8; KINDS],
+    numbers: &[u64; NUMBERS],
+    texts: &[u8; TEXTS],
+    wrong: usize,
+) -> bool {
     if refusal == Refusal::TABLE_TOO_SHORT {
-        return untouched(kinds, numbers, texts, 0, 0);
+        return untouched(kinds, numbers, texts, 0, 0, wrong);
     }
-    cleared(kinds, numbers, texts, 0, 0)
+    cleared(kinds, numbers, texts, Log::empty_front(), wrong)
 }

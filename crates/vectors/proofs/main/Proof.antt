@@ -1,18 +1,15 @@
 -- `vectors::main` is safe and ends: it reads sixteen sections at most.
 -- Assumes nothing.
-use mathlib.Core.Path.{_≡_}
 use Prim.Native.Nat.{_≤_, _-_}
-use native.Mathlib.Omega.{arith}
 use borrow.Author.Needs.{needs}
-use lib.ListN.{length}
 use Rattle.vectors.proofs.main.Statement.{statement}
 use Rattle.vectors.proofs.main.Tie as tie
 
 abbrev Inv-loop : tie.InvT-loop
-Inv-loop input₀ answer₀ sections₀ t6 input answer sections = (sections ≤ 16) × (length input ≡ 70000) × (length answer ≡ 70000)
+Inv-loop sections₀ t4 sections = sections ≤ 16
 
 abbrev μ-loop : tie.MeasureT-loop
-μ-loop input₀ answer₀ sections₀ t6 input answer sections = 16 - sections
+μ-loop sections₀ t4 sections = 16 - sections
 
 loop-holds : tie.Need-loop-holds Inv-loop μ-loop
 loop-holds c = search needs
@@ -20,8 +17,8 @@ loop-holds c = search needs
 add-sections : tie.Need-add-sections Inv-loop μ-loop
 add-sections c = search needs
 
-read-byte-requires : tie.Need-read-byte-requires Inv-loop μ-loop
-read-byte-requires c κs = search needs
+read-number-requires : tie.Need-read-number-requires Inv-loop μ-loop
+read-number-requires c κs = search needs
 
 enum-known-group : tie.Need-enum-known-group Inv-loop μ-loop
 enum-known-group c = search needs
@@ -32,8 +29,8 @@ enum-told c = search needs
 returns : tie.Need-returns Inv-loop μ-loop
 returns c = search needs
 
-read-number-requires : tie.Need-read-number-requires Inv-loop μ-loop
-read-number-requires c κs = search needs
+read-number-requires-2 : tie.Need-read-number-requires-2 Inv-loop μ-loop
+read-number-requires-2 c κs = search needs
 
 enum-known-count : tie.Need-enum-known-count Inv-loop μ-loop
 enum-known-count c = search needs
@@ -49,12 +46,6 @@ print-requires c κs = search needs
 
 returns-2 : tie.Need-returns-2 Inv-loop μ-loop
 returns-2 c = search needs
-
-slice-aggregate-replay-section : tie.Need-slice-aggregate-replay-section Inv-loop μ-loop
-slice-aggregate-replay-section c = search needs
-
-slice-aggregate-replay-section-2 : tie.Need-slice-aggregate-replay-section-2 Inv-loop μ-loop
-slice-aggregate-replay-section-2 c = search needs
 
 replay-section-requires : tie.Need-replay-section-requires Inv-loop μ-loop
 replay-section-requires c κs = search needs
@@ -79,18 +70,16 @@ main-spec =
     μ-loop
     loop-holds
     add-sections
-    read-byte-requires
+    read-number-requires
     enum-known-group
     enum-told
     returns
-    read-number-requires
+    read-number-requires-2
     enum-known-count
     enum-told-2
     slice-aggregate-print
     print-requires
     returns-2
-    slice-aggregate-replay-section
-    slice-aggregate-replay-section-2
     replay-section-requires
     report-requires
     loop-less

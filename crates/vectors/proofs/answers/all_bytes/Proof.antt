@@ -1,16 +1,15 @@
--- `vectors::cuts_cases::same_places` is safe: the first n places are there.
+-- `vectors::answers::all_bytes` is safe: the last place is within the table.
 -- Assumes nothing.
-use borrow.Author.Needs.{needs}
 use Prim.Native.Nat.{_≤_, _-_}
-use native.Mathlib.Omega.{arith}
-use Rattle.vectors.proofs.cuts_cases.same_places.Statement.{statement}
-use Rattle.vectors.proofs.cuts_cases.same_places.Tie as tie
+use borrow.Author.Needs.{needs}
+use Rattle.vectors.proofs.answers.all_bytes.Statement.{statement}
+use Rattle.vectors.proofs.answers.all_bytes.Tie as tie
 
 abbrev Inv-loop : tie.InvT-loop
-Inv-loop places n answer i₀ i = i ≤ n
+Inv-loop s from to b i₀ i = from ≤ i
 
 abbrev μ-loop : tie.MeasureT-loop
-μ-loop places n answer i₀ i = n - i
+μ-loop s from to b i₀ i = to - i
 
 returns : tie.Need-returns Inv-loop μ-loop
 returns c = search needs
@@ -18,17 +17,8 @@ returns c = search needs
 loop-holds : tie.Need-loop-holds Inv-loop μ-loop
 loop-holds c = search needs
 
-mul-if2 : tie.Need-mul-if2 Inv-loop μ-loop
-mul-if2 c = search needs
-
 shared-slice-read-if2 : tie.Need-shared-slice-read-if2 Inv-loop μ-loop
 shared-slice-read-if2 c = search needs
-
-mul-eight : tie.Need-mul-eight Inv-loop μ-loop
-mul-eight c = search needs
-
-eight-requires : tie.Need-eight-requires Inv-loop μ-loop
-eight-requires c κs = search needs
 
 returns-2 : tie.Need-returns-2 Inv-loop μ-loop
 returns-2 c = search needs
@@ -45,18 +35,15 @@ loop-again c = search needs
 returns-3 : tie.Need-returns-3 Inv-loop μ-loop
 returns-3 c = search needs
 
-pub same-places-spec : {M : Type 1} → statement M
-same-places-spec =
+pub all-bytes-spec : {M : Type 1} → statement M
+all-bytes-spec =
     tie.close
     (tie.spec
     Inv-loop
     μ-loop
     returns
     loop-holds
-    mul-if2
     shared-slice-read-if2
-    mul-eight
-    eight-requires
     returns-2
     add-i
     loop-less

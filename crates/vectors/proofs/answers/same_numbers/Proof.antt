@@ -1,15 +1,16 @@
--- `vectors::packs::all_numbers` is safe: the last place is within the table.
+-- `vectors::answers::same_numbers` is safe: the first numbers are there.
 -- Assumes nothing.
-use Prim.Native.Nat.{_≤_, _-_}
 use borrow.Author.Needs.{needs}
-use Rattle.vectors.proofs.packs.all_numbers.Statement.{statement}
-use Rattle.vectors.proofs.packs.all_numbers.Tie as tie
+use Prim.Native.Nat.{_≤_, _-_}
+use native.Mathlib.Omega.{arith}
+use Rattle.vectors.proofs.answers.same_numbers.Statement.{statement}
+use Rattle.vectors.proofs.answers.same_numbers.Tie as tie
 
 abbrev Inv-loop : tie.InvT-loop
-Inv-loop s from to n i₀ i = from ≤ i
+Inv-loop numbers nodes answer from i₀ i = i ≤ nodes
 
 abbrev μ-loop : tie.MeasureT-loop
-μ-loop s from to n i₀ i = to - i
+μ-loop numbers nodes answer from i₀ i = nodes - i
 
 returns : tie.Need-returns Inv-loop μ-loop
 returns c = search needs
@@ -22,6 +23,15 @@ mul-if2 c = search needs
 
 shared-slice-read-if2 : tie.Need-shared-slice-read-if2 Inv-loop μ-loop
 shared-slice-read-if2 c = search needs
+
+mul-along : tie.Need-mul-along Inv-loop μ-loop
+mul-along c = search needs
+
+along-requires : tie.Need-along-requires Inv-loop μ-loop
+along-requires c κs = search needs
+
+eight-requires : tie.Need-eight-requires Inv-loop μ-loop
+eight-requires c κs = search needs
 
 returns-2 : tie.Need-returns-2 Inv-loop μ-loop
 returns-2 c = search needs
@@ -38,8 +48,8 @@ loop-again c = search needs
 returns-3 : tie.Need-returns-3 Inv-loop μ-loop
 returns-3 c = search needs
 
-pub all-numbers-spec : {M : Type 1} → statement M
-all-numbers-spec =
+pub same-numbers-spec : {M : Type 1} → statement M
+same-numbers-spec =
     tie.close
     (tie.spec
     Inv-loop
@@ -48,6 +58,9 @@ all-numbers-spec =
     loop-holds
     mul-if2
     shared-slice-read-if2
+    mul-along
+    along-requires
+    eight-requires
     returns-2
     add-i
     loop-less

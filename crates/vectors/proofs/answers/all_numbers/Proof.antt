@@ -1,21 +1,24 @@
--- `vectors::packs::all_bytes` is safe: the last place is within the table.
+-- `vectors::answers::all_numbers` is safe: the last place is within the table.
 -- Assumes nothing.
 use Prim.Native.Nat.{_≤_, _-_}
 use borrow.Author.Needs.{needs}
-use Rattle.vectors.proofs.packs.all_bytes.Statement.{statement}
-use Rattle.vectors.proofs.packs.all_bytes.Tie as tie
+use Rattle.vectors.proofs.answers.all_numbers.Statement.{statement}
+use Rattle.vectors.proofs.answers.all_numbers.Tie as tie
 
 abbrev Inv-loop : tie.InvT-loop
-Inv-loop s from to b i₀ i = from ≤ i
+Inv-loop s from to n i₀ i = from ≤ i
 
 abbrev μ-loop : tie.MeasureT-loop
-μ-loop s from to b i₀ i = to - i
+μ-loop s from to n i₀ i = to - i
 
 returns : tie.Need-returns Inv-loop μ-loop
 returns c = search needs
 
 loop-holds : tie.Need-loop-holds Inv-loop μ-loop
 loop-holds c = search needs
+
+mul-if2 : tie.Need-mul-if2 Inv-loop μ-loop
+mul-if2 c = search needs
 
 shared-slice-read-if2 : tie.Need-shared-slice-read-if2 Inv-loop μ-loop
 shared-slice-read-if2 c = search needs
@@ -35,14 +38,15 @@ loop-again c = search needs
 returns-3 : tie.Need-returns-3 Inv-loop μ-loop
 returns-3 c = search needs
 
-pub all-bytes-spec : {M : Type 1} → statement M
-all-bytes-spec =
+pub all-numbers-spec : {M : Type 1} → statement M
+all-numbers-spec =
     tie.close
     (tie.spec
     Inv-loop
     μ-loop
     returns
     loop-holds
+    mul-if2
     shared-slice-read-if2
     returns-2
     add-i
