@@ -1,4 +1,5 @@
-// What our functions gave beside what the oracle answered.
+// What the oracle answered beside what our functions gave and wrote.
+use crate::control;
 use crate::little;
 
 // Is the answer so many bytes, at most nine: this one, and a number in the others?
@@ -8,53 +9,50 @@ pub fn is(answer: &[u8], length: usize, first: u64, number: u64) -> bool {
         & (little::eight(answer, 1) == number)
 }
 
-// Do the first n bytes of an output hold this text, and the others what was lent?
-pub fn same_output(out: &[u8], n: usize, text: &[u8], lent: u8) -> bool {
-    (text.len() == n)
-        & buffers::same(little::prefix(out, n), text)
-        & all_bytes(out, n, out.len(), lent)
+// What is to be written: what the answer has behind a first byte 1, or nothing.
+pub fn written(answer: &[u8]) -> &[u8] {
+    if little::byte(answer, 0) == 1 {
+        return little::behind(answer, 1);
+    }
+    little::prefix(answer, 0)
 }
 
-// Do the first n numbers of a table stand in the text, eight bytes each from a place on?
-pub fn same_numbers(numbers: &[u64], n: usize, text: &[u8], from: usize) -> bool {
-    if n > numbers.len() {
-        return false;
+// The byte of a text, or past its end this value.
+fn byte_or(text: &[u8], at: usize, other: u64) -> u64 {
+    if at < text.len() {
+        return little::wide(text[at]);
     }
+    other
+}
+
+// The number that stands in eight bytes of a text, or past its end this value.
+fn number_or(text: &[u8], at: usize, other: u64) -> u64 {
+    if at < text.len() / 8 {
+        return little::eight(text, at * 8);
+    }
+    other
+}
+
+// Does a table of bytes hold this text and nothing else?
+pub fn bytes_hold(s: &[u8], text: &[u8], used: usize, table: usize, wrong: usize) -> bool {
+    let mut same = text.len() <= s.len();
     let mut i: usize = 0;
-    while i < n {
-        if numbers[i] != little::eight(text, little::along(from, i * 8)) {
-            return false;
-        }
+    while i < s.len() {
+        let unwritten = control::unwritten(i, used, table, wrong);
+        same = same & (little::wide(s[i]) == byte_or(text, i, unwritten));
         i += 1;
     }
-    true
+    same
 }
 
-// Is every byte from one place up to another this one?
-pub fn all_bytes(s: &[u8], from: usize, to: usize, b: u8) -> bool {
-    if to > s.len() {
-        return false;
-    }
-    let mut i = from;
-    while i < to {
-        if s[i] != b {
-            return false;
-        }
+// Does a table of numbers hold those of this text, eight bytes each, and nothing else?
+pub fn numbers_hold(s: &[u64], text: &[u8], used: usize, table: usize, wrong: usize) -> bool {
+    let mut same = text.len() / 8 <= s.len();
+    let mut i: usize = 0;
+    while i < s.len() {
+        let unwritten = control::unwritten(i, used, table, wrong);
+        same = same & (s[i] == number_or(text, i, unwritten));
         i += 1;
     }
-    true
-}
-
-pub fn all_numbers(s: &[u64], from: usize, to: usize, n: u64) -> bool {
-    if to > s.len() {
-        return false;
-    }
-    let mut i = from;
-    while i < to {
-        if s[i] != n {
-            return false;
-        }
-        i += 1;
-    }
-    true
+    same
 }

@@ -1,32 +1,24 @@
 // The control: cases that must differ. Most have a wrong answer. In the others the answer is true, and one look at what was lent
-// expects another value than it should; `wrong` is its number, 0 where there is none.
+// expects another value than it should. `wrong` says which look: 0 none, else the number of a table for its cleared entries, and
+// four more for its entries that are as they were lent.
 
-pub const CONTROL: usize = 9;
+pub const GROUP: usize = 9;
 
-// The looks at the cleared entries of the three tables.
-pub const KINDS_CLEARED: usize = 1;
+pub const KINDS: usize = 1;
 
-pub const NUMBERS_CLEARED: usize = 2;
+pub const NUMBERS: usize = 2;
 
-pub const TEXTS_CLEARED: usize = 3;
+pub const TEXTS: usize = 3;
 
-// The looks at what no call may change.
-pub const KINDS_LENT: usize = 4;
+// The output of a case that has one.
+pub const OUTPUT: usize = 4;
 
-pub const NUMBERS_LENT: usize = 5;
-
-pub const TEXTS_LENT: usize = 6;
-
-pub const OUTPUT_LENT: usize = 7;
-
-// What a cleared entry is expected to hold.
-pub fn cleared(wrong: usize, look: usize) -> u8 {
-    (wrong == look) as u8
-}
-
-// What an entry is expected to hold that is as it was lent.
-pub fn lent(wrong: usize, look: usize) -> u8 {
-    if wrong == look {
+// What an entry of a table is expected to hold that was not written: zero before the place `used`, and from there on what was lent.
+pub fn unwritten(at: usize, used: usize, table: usize, wrong: usize) -> u64 {
+    if at < used {
+        return (wrong == table) as u64;
+    }
+    if wrong == std::num::wrapping_add_usize(table, 4) {
         return 78;
     }
     77

@@ -4,51 +4,37 @@ use crate::control;
 use crate::little;
 use cuts::Cut;
 use cuts::Found;
-use format::Refusal;
 
-// In place of a refusal where the places are expected: no byte is this.
-const NO_REFUSAL: u64 = 256;
-
-// Cuts into the first `room` entries of a table. All of it is looked at: the places, eight bytes each in the text, or the refusal,
-// and behind them what was lent.
-fn cut_in(room: usize, body: &[u8], places: &[u8], refusal: u64, wrong: usize) -> bool {
-    let mut table = [77u64; 4_097];
-    let lent = little::wide(control::lent(wrong, control::NUMBERS_LENT));
-    let cut = cuts::cut_body(little::first_numbers(&mut table, room), body);
+// So many places, eight bytes each, or a refusal, one byte: the other of the two is empty.
+fn same_cut(cut: Cut, places: &[u8], refusal: &[u8]) -> bool {
     match cut {
         Cut::Places(n) => {
-            (refusal == NO_REFUSAL)
-                & (places.len() % 8 == 0)
-                & (places.len() / 8 == n)
-                & answers::same_numbers(&table, n, places, 0)
-                & answers::all_numbers(&table, n, 4_097, lent)
+            (refusal.len() == 0) & (places.len() % 8 == 0) & (places.len() / 8 == n)
         }
-        Cut::Refused(e) => {
-            (refusal == little::wide(e)) & answers::all_numbers(&table, 0, 4_097, lent)
-        }
+        Cut::Refused(e) => answers::is(refusal, 1, little::wide(e), 0),
     }
+}
+
+// Cuts into the first `room` entries of a table, which is then looked at whole.
+fn cut_in(room: usize, body: &[u8], places: &[u8], refusal: &[u8], wrong: usize) -> bool {
+    let mut table = [77u64; 4_097];
+    let cut = cuts::cut_body(little::first_numbers(&mut table, room), body);
+    same_cut(cut, places, refusal) & same_table(&table, places, wrong)
+}
+
+fn same_table(table: &[u64; 4_097], places: &[u8], wrong: usize) -> bool {
+    answers::numbers_hold(table, places, 0, control::OUTPUT, wrong)
 }
 
 // A table that is longer than needed, one that the places just fill, one that is an entry short.
-fn body_case(body: &[u8], answer: &[u8], wrong: usize) -> bool {
-    let n = answer.len() / 8;
-    let enough = cut_in(4_097, body, answer, NO_REFUSAL, wrong)
-        & cut_in(n, body, answer, NO_REFUSAL, wrong);
+fn body_case(body: &[u8], places: &[u8], wrong: usize) -> bool {
+    let n = places.len() / 8;
+    let none = little::prefix(places, 0);
+    let enough = cut_in(4_097, body, places, none, wrong) & cut_in(n, body, places, none, wrong);
     if n == 0 {
         return enough;
     }
-    enough
-        & cut_in(
-            n - 1,
-            body,
-            answer,
-            little::wide(Refusal::OUTPUT_TOO_SHORT),
-            wrong,
-        )
-}
-
-fn refused_case(body: &[u8], answer: &[u8], wrong: usize) -> bool {
-    (answer.len() == 1) & cut_in(4_097, body, answer, little::byte(answer, 0), wrong)
+    enough & cut_in(n - 1, body, none, b"\x05", wrong)
 }
 
 // 0, or 1 and the place in four bytes.
@@ -67,7 +53,7 @@ pub fn agrees(op: usize, input: &[u8], answer: &[u8], wrong: usize) -> bool {
         4 => place_case(cuts::top_level_char(input, b'{'), answer),
         5 => place_case(cuts::split_top_level_once(input), answer),
         6 => place_case(cuts::find_unescaped_quote(input), answer),
-        7 => refused_case(input, answer, wrong),
+        7 => cut_in(4_097, input, little::prefix(answer, 0), answer, wrong),
         _ => false,
     }
 }

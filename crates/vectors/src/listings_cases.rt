@@ -4,40 +4,44 @@ use crate::control;
 use crate::little;
 use crate::packs;
 use crate::packs::Lent;
-use format::Log;
 use listing::Listed;
 
-// The input: the event's number in eight bytes, the length of the output in four, then the line.
-// The answer: 0 and the refusal, or 1 and the listing, or 2 for a blank line.
+const OUTPUT: usize = 32_768;
+
+// 0 and the refusal, or 1 and the listing, or 2 for a blank line.
+fn same_listed(listed: Listed, answer: &[u8]) -> bool {
+    match listed {
+        Listed::Written(n) => {
+            (little::byte(answer, 0) == 1) & (answer.len() == little::along(n, 1))
+        }
+        Listed::Blank => answers::is(answer, 1, 2, 0),
+        Listed::Refused(e) => answers::is(answer, 2, 0, little::wide(e)),
+    }
+}
+
+// The whole output: the listing, and behind it what was lent.
+fn same_output(out: &[u8; OUTPUT], answer: &[u8], wrong: usize) -> bool {
+    answers::bytes_hold(out, answers::written(answer), 0, control::OUTPUT, wrong)
+}
+
+// The event's number in eight bytes, the length of the output in four, then the line.
 pub fn agrees(lent: Lent, input: &[u8], answer: &[u8], wrong: usize) -> bool {
     let mut kinds = [77u8; packs::KINDS];
     let mut numbers = [77u64; packs::NUMBERS];
     let mut texts = [77u8; packs::TEXTS];
-    let mut out = [77u8; 32_768];
-    let left = control::lent(wrong, control::OUTPUT_LENT);
+    let mut out = [77u8; OUTPUT];
+    let room = little::four(input, 8) as usize;
     let listed = listing::list_line(
         little::first_bytes(&mut kinds, lent.kinds),
         little::first_numbers(&mut numbers, lent.numbers),
         little::first_bytes(&mut texts, lent.texts),
-        little::first_bytes(&mut out, little::four(input, 8) as usize),
+        little::first_bytes(&mut out, room),
         little::behind(input, 12),
         little::eight(input, 0),
     );
-    match listed {
-        Listed::Written(n) => {
-            answers::is(little::prefix(answer, 1), 1, 1, 0)
-                & answers::same_output(&out, n, little::behind(answer, 1), left)
-                & packs::cleared(&kinds, &numbers, &texts, Log::empty_front(), wrong)
-        }
-        Listed::Blank => {
-            answers::is(answer, 1, 2, 0)
-                & answers::all_bytes(&out, 0, 32_768, left)
-                & packs::cleared(&kinds, &numbers, &texts, Log::empty_front(), wrong)
-        }
-        Listed::Refused(e) => {
-            answers::is(answer, 2, 0, little::wide(e))
-                & answers::all_bytes(&out, 0, 32_768, left)
-                & packs::left_by(e, &kinds, &numbers, &texts, wrong)
-        }
-    }
+    let none = little::prefix(answer, 0);
+    (room <= OUTPUT)
+        & same_listed(listed, answer)
+        & same_output(&out, answer, wrong)
+        & packs::left_by(answer, none, &kinds, &numbers, &texts, wrong)
 }

@@ -45,6 +45,14 @@ pub fn prefix(s: &[u8], n: usize) -> &[u8] {
     s
 }
 
+// The first n numbers, or all where there are fewer.
+pub fn prefix_numbers(s: &[u64], n: usize) -> &[u64] {
+    if n < s.len() {
+        return &s[..n];
+    }
+    s
+}
+
 // At most n bytes from a place on.
 pub fn part(s: &[u8], from: usize, n: usize) -> &[u8] {
     if from < s.len() {

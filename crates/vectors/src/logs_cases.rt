@@ -3,10 +3,19 @@ use crate::answers;
 use crate::little;
 use crate::packs;
 use crate::packs::Lent;
-use format::Log;
 use logs::Judged;
 
 // 0, the refusal and its line in four bytes, or 1 and the count of events in four bytes.
+fn same_judged(judged: Judged, answer: &[u8]) -> bool {
+    match judged {
+        Judged::Accepted(count) => answers::is(answer, 5, 1, count as u64),
+        Judged::Refused(e, line) => {
+            answers::is(little::prefix(answer, 1), 1, 0, 0)
+                & answers::is(little::behind(answer, 1), 5, little::wide(e), line as u64)
+        }
+    }
+}
+
 pub fn agrees(lent: Lent, input: &[u8], answer: &[u8], wrong: usize) -> bool {
     let mut kinds = [77u8; packs::KINDS];
     let mut numbers = [77u64; packs::NUMBERS];
@@ -17,15 +26,6 @@ pub fn agrees(lent: Lent, input: &[u8], answer: &[u8], wrong: usize) -> bool {
         little::first_bytes(&mut texts, lent.texts),
         input,
     );
-    match judged {
-        Judged::Accepted(count) => {
-            answers::is(answer, 5, 1, count as u64)
-                & packs::cleared(&kinds, &numbers, &texts, Log::empty_front(), wrong)
-        }
-        Judged::Refused(e, line) => {
-            answers::is(little::prefix(answer, 1), 1, 0, 0)
-                & answers::is(little::behind(answer, 1), 5, little::wide(e), line as u64)
-                & packs::left_by(e, &kinds, &numbers, &texts, wrong)
-        }
-    }
+    let none = little::prefix(answer, 0);
+    same_judged(judged, answer) & packs::left_by(answer, none, &kinds, &numbers, &texts, wrong)
 }

@@ -57,98 +57,75 @@ impl Lent {
     }
 }
 
-// 1, node count, text byte count, then kinds, numbers and texts.
-pub fn same_pack(
-    kinds: &[u8; KINDS],
-    numbers: &[u64; NUMBERS],
-    texts: &[u8; TEXTS],
-    front: Front,
-    answer: &[u8],
-) -> bool {
+// 1 and a pack of so many nodes and bytes of text: their counts in four bytes each, then kinds, numbers and texts.
+pub fn is_pack(answer: &[u8], front: Front) -> bool {
     let nodes = front.nodes;
     let count = front.texts;
-    let behind_kinds = little::along(9, nodes);
-    let behind_numbers = little::along(behind_kinds, nodes % 65_536 * 8);
     (little::byte(answer, 0) == 1)
         & (little::four(answer, 1) == (nodes as u64))
         & (little::four(answer, 5) == (count as u64))
-        & (answer.len() == little::along(behind_numbers, count))
-        & buffers::same(little::prefix(kinds, nodes), little::part(answer, 9, nodes))
-        & answers::same_numbers(numbers, nodes, answer, behind_kinds)
-        & buffers::same(
-            little::prefix(texts, count),
-            little::behind(answer, behind_numbers),
-        )
+        & (answer.len() == little::along(little::along(9, count), nodes % 65_536 * 9))
 }
 
-// Are the tables as they were lent, from these places on?
-fn untouched(
-    kinds: &[u8; KINDS],
-    numbers: &[u64; NUMBERS],
-    texts: &[u8; TEXTS],
-    nodes: usize,
-    count: usize,
+// Do the tables hold a pack, zeros as far as they are used, and behind that what was lent? Without a pack it is empty.
+pub fn hold(
+    kinds: &[u8],
+    numbers: &[u64],
+    texts: &[u8],
+    pack: &[u8],
+    used: Front,
     wrong: usize,
 ) -> bool {
-    answers::all_bytes(
+    let nodes = little::four(pack, 0) as usize;
+    let behind_kinds = little::along(8, nodes);
+    let behind_numbers = little::along(behind_kinds, nodes * 8);
+    answers::bytes_hold(
         kinds,
-        nodes,
-        KINDS,
-        control::lent(wrong, control::KINDS_LENT),
+        little::part(pack, 8, nodes),
+        used.nodes,
+        control::KINDS,
+        wrong,
     )
-        & answers::all_numbers(
+        & answers::numbers_hold(
             numbers,
-            nodes,
-            NUMBERS,
-            little::wide(control::lent(wrong, control::NUMBERS_LENT)),
+            little::part(pack, behind_kinds, nodes * 8),
+            used.nodes,
+            control::NUMBERS,
+            wrong,
         )
-        & answers::all_bytes(
+        & answers::bytes_hold(
             texts,
-            count,
-            TEXTS,
-            control::lent(wrong, control::TEXTS_LENT),
+            little::behind(pack, behind_numbers),
+            used.texts,
+            control::TEXTS,
+            wrong,
         )
 }
 
-// Zeros behind a front as far as the tables are used, and behind that nothing changed?
-pub fn cleared(
-    kinds: &[u8; KINDS],
-    numbers: &[u64; NUMBERS],
-    texts: &[u8; TEXTS],
-    front: Front,
-    wrong: usize,
-) -> bool {
-    answers::all_bytes(
-        kinds,
-        front.nodes,
-        Log::NODES,
-        control::cleared(wrong, control::KINDS_CLEARED),
-    )
-        & answers::all_numbers(
-            numbers,
-            front.nodes,
-            Log::NODES,
-            little::wide(control::cleared(wrong, control::NUMBERS_CLEARED)),
-        )
-        & answers::all_bytes(
-            texts,
-            front.texts,
-            Log::TEXTS,
-            control::cleared(wrong, control::TEXTS_CLEARED),
-        )
-        & untouched(kinds, numbers, texts, Log::NODES, Log::TEXTS, wrong)
-}
-
-// What a refusal leaves: tables that are too short as they were, others cleared.
-pub fn left_by(
-    refusal: u8,
-    kinds: &[u8; KINDS],
-    numbers: &[u64; NUMBERS],
-    texts: &[u8; TEXTS],
-    wrong: usize,
-) -> bool {
-    if refusal == Refusal::TABLE_TOO_SHORT {
-        return untouched(kinds, numbers, texts, 0, 0, wrong);
+// How far a call with this answer uses the tables: not at all where it refuses them as too short.
+fn used_by(answer: &[u8]) -> Front {
+    if answers::is(
+        little::prefix(answer, 2),
+        2,
+        0,
+        little::wide(Refusal::TABLE_TOO_SHORT),
+    ) {
+        return Log::empty_front();
     }
-    cleared(kinds, numbers, texts, Log::empty_front(), wrong)
+    Front {
+        nodes: Log::NODES,
+        texts: Log::TEXTS,
+    }
+}
+
+// What a call with this answer leaves in the tables.
+pub fn left_by(
+    answer: &[u8],
+    pack: &[u8],
+    kinds: &[u8; KINDS],
+    numbers: &[u64; NUMBERS],
+    texts: &[u8; TEXTS],
+    wrong: usize,
+) -> bool {
+    hold(kinds, numbers, texts, pack, used_by(answer), wrong)
 }

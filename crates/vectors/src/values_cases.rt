@@ -5,7 +5,30 @@ use crate::packs;
 use format::Log;
 use values::Read;
 
-// 0 and the refusal, or 1 and the pack.
+// 0 and the refusal, or 1 and the pack. Of what stands behind it in the tables nothing is promised.
+fn same_value(
+    read: Read,
+    kinds: &[u8; packs::KINDS],
+    numbers: &[u64; packs::NUMBERS],
+    texts: &[u8; packs::TEXTS],
+    answer: &[u8],
+) -> bool {
+    match read {
+        Read::Done(front) => {
+            packs::is_pack(answer, front)
+                & packs::hold(
+                    little::prefix(kinds, front.nodes),
+                    little::prefix_numbers(numbers, front.nodes),
+                    little::prefix(texts, front.texts),
+                    little::behind(answer, 1),
+                    front,
+                    0,
+                )
+        }
+        Read::Refused(e) => answers::is(answer, 2, 0, little::wide(e)),
+    }
+}
+
 fn value_case(input: &[u8], answer: &[u8]) -> bool {
     let mut kinds = [77u8; packs::KINDS];
     let mut numbers = [77u64; packs::NUMBERS];
@@ -22,10 +45,7 @@ fn value_case(input: &[u8], answer: &[u8]) -> bool {
         Log::empty_front(),
         input,
     );
-    match read {
-        Read::Done(front) => packs::same_pack(&kinds, &numbers, &texts, front, answer),
-        Read::Refused(e) => answers::is(answer, 2, 0, little::wide(e)),
-    }
+    same_value(read, &kinds, &numbers, &texts, answer)
 }
 
 pub fn agrees(op: usize, input: &[u8], answer: &[u8]) -> bool {

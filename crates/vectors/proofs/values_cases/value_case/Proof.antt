@@ -40,26 +40,11 @@ parse-value-requires c κs =
       (omega (arith, n), omega (arith, n)),
     )
 
-enum-known-read : tie.Need-enum-known-read
-enum-known-read c = search needs
-
-same-pack-requires : tie.Need-same-pack-requires
-same-pack-requires c κs = search needs
-
-enum-known-read-2 : tie.Need-enum-known-read-2
-enum-known-read-2 c = search needs
-
-wide-requires : tie.Need-wide-requires
-wide-requires c κs = search needs
-
-is-requires : tie.Need-is-requires
-is-requires c κs = search needs
+same-value-requires : tie.Need-same-value-requires
+same-value-requires c κs = search needs
 
 returns-2 : tie.Need-returns-2
 returns-2 c = search needs
-
-returns-3 : tie.Need-returns-3
-returns-3 c = search needs
 
 pub value-case-spec : {M : Type 1} → statement M
 value-case-spec =
@@ -72,10 +57,5 @@ value-case-spec =
     slice-aggregate-parse-value-4
     empty-front-requires
     parse-value-requires
-    enum-known-read
-    same-pack-requires
-    enum-known-read-2
-    wide-requires
-    is-requires
-    returns-2
-    returns-3)
+    same-value-requires
+    returns-2)
