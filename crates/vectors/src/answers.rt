@@ -2,6 +2,9 @@
 use crate::control;
 use crate::little;
 
+// How long an output is: longer than any answer.
+pub const OUTPUT: usize = 32_768;
+
 // Is the answer so many bytes, at most nine: this one, and a number in the others?
 pub fn is(answer: &[u8], length: usize, first: u64, number: u64) -> bool {
     (answer.len() == length)
@@ -43,6 +46,11 @@ pub fn bytes_hold(s: &[u8], text: &[u8], used: usize, table: usize, wrong: usize
         i += 1;
     }
     same
+}
+
+// The same for an output, of which nothing is cleared.
+pub fn output_holds(out: &[u8; OUTPUT], text: &[u8], wrong: usize) -> bool {
+    bytes_hold(out, text, 0, control::OUTPUT, wrong)
 }
 
 // Does a table of numbers hold those of this text, eight bytes each, and nothing else?

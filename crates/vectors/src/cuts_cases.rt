@@ -19,11 +19,8 @@ fn same_cut(cut: Cut, places: &[u8], refusal: &[u8]) -> bool {
 fn cut_in(room: usize, body: &[u8], places: &[u8], refusal: &[u8], wrong: usize) -> bool {
     let mut table = [77u64; 4_097];
     let cut = cuts::cut_body(little::first_numbers(&mut table, room), body);
-    same_cut(cut, places, refusal) & same_table(&table, places, wrong)
-}
-
-fn same_table(table: &[u64; 4_097], places: &[u8], wrong: usize) -> bool {
-    answers::numbers_hold(table, places, 0, control::OUTPUT, wrong)
+    same_cut(cut, places, refusal)
+        & answers::numbers_hold(&table, places, 0, control::OUTPUT, wrong)
 }
 
 // A table that is longer than needed, one that the places just fill, one that is an entry short.

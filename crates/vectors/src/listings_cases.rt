@@ -1,12 +1,9 @@
 // Cases of the crate listing: what a line lists, and what the output and the tables then hold.
 use crate::answers;
-use crate::control;
 use crate::little;
 use crate::packs;
 use crate::packs::Lent;
 use listing::Listed;
-
-const OUTPUT: usize = 32_768;
 
 // 0 and the refusal, or 1 and the listing, or 2 for a blank line.
 fn same_listed(listed: Listed, answer: &[u8]) -> bool {
@@ -19,17 +16,12 @@ fn same_listed(listed: Listed, answer: &[u8]) -> bool {
     }
 }
 
-// The whole output: the listing, and behind it what was lent.
-fn same_output(out: &[u8; OUTPUT], answer: &[u8], wrong: usize) -> bool {
-    answers::bytes_hold(out, answers::written(answer), 0, control::OUTPUT, wrong)
-}
-
 // The event's number in eight bytes, the length of the output in four, then the line.
 pub fn agrees(lent: Lent, input: &[u8], answer: &[u8], wrong: usize) -> bool {
     let mut kinds = [77u8; packs::KINDS];
     let mut numbers = [77u64; packs::NUMBERS];
     let mut texts = [77u8; packs::TEXTS];
-    let mut out = [77u8; OUTPUT];
+    let mut out = [77u8; answers::OUTPUT];
     let room = little::four(input, 8) as usize;
     let listed = listing::list_line(
         little::first_bytes(&mut kinds, lent.kinds),
@@ -40,8 +32,8 @@ pub fn agrees(lent: Lent, input: &[u8], answer: &[u8], wrong: usize) -> bool {
         little::eight(input, 0),
     );
     let none = little::prefix(answer, 0);
-    (room <= OUTPUT)
+    (room <= answers::OUTPUT)
         & same_listed(listed, answer)
-        & same_output(&out, answer, wrong)
+        & answers::output_holds(&out, answers::written(answer), wrong)
         & packs::left_by(answer, none, &kinds, &numbers, &texts, wrong)
 }

@@ -4,7 +4,6 @@ use crate::control;
 use crate::little;
 use format::Front;
 use format::Log;
-use format::Refusal;
 
 // Longer than what a call uses, so that a call that goes too far shows.
 pub const KINDS: usize = 8_193;
@@ -12,6 +11,9 @@ pub const KINDS: usize = 8_193;
 pub const NUMBERS: usize = 8_195;
 
 pub const TEXTS: usize = 32_775;
+
+// An answer that begins with 0 and refusal 1, as a number.
+const TABLE_REFUSED: u64 = 256;
 
 // How many first entries of each table are lent.
 pub struct Lent {
@@ -104,12 +106,7 @@ pub fn hold(
 
 // How far a call with this answer uses the tables: not at all where it refuses them as too short.
 fn used_by(answer: &[u8]) -> Front {
-    if answers::is(
-        little::prefix(answer, 2),
-        2,
-        0,
-        little::wide(Refusal::TABLE_TOO_SHORT),
-    ) {
+    if little::two(answer, 0) == TABLE_REFUSED {
         return Log::empty_front();
     }
     Front {

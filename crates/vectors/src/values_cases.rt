@@ -29,7 +29,7 @@ fn same_value(
     }
 }
 
-fn value_case(input: &[u8], answer: &[u8]) -> bool {
+pub fn agrees(input: &[u8], answer: &[u8]) -> bool {
     let mut kinds = [77u8; packs::KINDS];
     let mut numbers = [77u64; packs::NUMBERS];
     let mut texts = [77u8; packs::TEXTS];
@@ -46,11 +46,4 @@ fn value_case(input: &[u8], answer: &[u8]) -> bool {
         input,
     );
     same_value(read, &kinds, &numbers, &texts, answer)
-}
-
-pub fn agrees(op: usize, input: &[u8], answer: &[u8]) -> bool {
-    match op {
-        1 => value_case(input, answer),
-        _ => false,
-    }
 }

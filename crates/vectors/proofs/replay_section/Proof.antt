@@ -16,6 +16,9 @@ loop-holds c = tt
 replay-case-requires : tie.Need-replay-case-requires Inv-loop μ-loop
 replay-case-requires c κs = tt
 
+counted-requires : tie.Need-counted-requires Inv-loop μ-loop
+counted-requires c κs = tt
+
 sub-left : tie.Need-sub-left Inv-loop μ-loop
 sub-left c = search needs
 
@@ -39,6 +42,7 @@ replay-section-spec =
     μ-loop
     loop-holds
     replay-case-requires
+    counted-requires
     sub-left
     returns
     loop-less

@@ -1,11 +1,11 @@
--- `vectors::values_cases::value_case` is safe: the tables are longer than the longest line.
+-- `vectors::values_cases::agrees` is safe: the tables are longer than the longest line.
 -- Assumes nothing.
 use mathlib.Core.Path.{_≡_, ap}
 use native.Mathlib.Omega.{arith}
 use Rattle.format.specs.declared.Front.{Front}
 use borrow.Author.Needs.{needs}
-use Rattle.vectors.proofs.values_cases.value_case.Statement.{statement}
-use Rattle.vectors.proofs.values_cases.value_case.Tie as tie
+use Rattle.vectors.proofs.values_cases.agrees.Statement.{statement}
+use Rattle.vectors.proofs.values_cases.agrees.Tie as tie
 
 returns : tie.Need-returns
 returns c = search needs
@@ -46,8 +46,8 @@ same-value-requires c κs = search needs
 returns-2 : tie.Need-returns-2
 returns-2 c = search needs
 
-pub value-case-spec : {M : Type 1} → statement M
-value-case-spec =
+pub agrees-spec : {M : Type 1} → statement M
+agrees-spec =
     tie.close
     (tie.spec
     returns
