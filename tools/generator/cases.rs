@@ -12,10 +12,16 @@ const IN_PIECES: u32 = 1 << 31;
 /// Shorter texts stand as they are.
 const LONG: usize = 256;
 
+pub struct Case {
+    pub op: u8,
+    pub input: Vec<u8>,
+    pub answer: Vec<u8>,
+}
+
 #[derive(Default)]
 pub struct Cases {
     seen: BTreeSet<(u8, Vec<u8>)>,
-    count: u32,
+    list: Vec<Case>,
     body: Vec<u8>,
     longest: (usize, usize),
     /// How often each refusal number is an answer.
@@ -25,16 +31,25 @@ pub struct Cases {
 impl Cases {
     /// False where the case is there already: it is not written again.
     pub fn add(&mut self, op: u8, input: &[u8], answer: &[u8]) -> bool {
-        assert!(input.len() <= LONGEST && answer.len() <= LONGEST, "a case is too long");
-        if !self.seen.insert((op, input.to_vec())) {
-            return false;
+        let new = self.seen.insert((op, input.to_vec()));
+        if new {
+            self.push(op, input, answer);
         }
-        self.count += 1;
+        new
+    }
+
+    /// One more case, be its input there already or not.
+    pub fn push(&mut self, op: u8, input: &[u8], answer: &[u8]) {
+        assert!(input.len() <= LONGEST && answer.len() <= LONGEST, "a case is too long");
+        self.list.push(Case { op, input: input.to_vec(), answer: answer.to_vec() });
         self.longest = (self.longest.0.max(input.len()), self.longest.1.max(answer.len()));
         self.body.push(op);
         self.text(input);
         self.text(answer);
-        true
+    }
+
+    pub fn list(&self) -> &[Case] {
+        &self.list
     }
 
     fn text(&mut self, text: &[u8]) {
@@ -67,7 +82,7 @@ impl Cases {
     }
 
     pub fn bytes(&self) -> Vec<u8> {
-        let mut out = self.count.to_le_bytes().to_vec();
+        let mut out = (self.list.len() as u32).to_le_bytes().to_vec();
         out.extend(&self.body);
         assert!(out.len() <= LARGEST, "a vector file of {} bytes is too large", out.len());
         out
@@ -78,7 +93,7 @@ impl Cases {
         let size = self.body.len() + 4;
         let mut out = format!(
             "{} cases, {size} bytes, longest input {input}, longest answer {answer}",
-            self.count
+            self.list.len()
         );
         for (number, times) in &self.refusals {
             out += &format!(", {number}: {times}");

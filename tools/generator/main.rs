@@ -2,6 +2,7 @@
 
 mod cases;
 mod chars;
+mod control;
 mod cuts;
 mod damage;
 mod escapes;
@@ -18,20 +19,22 @@ mod values;
 
 use cases::Cases;
 use hand::Hand;
+use std::collections::BTreeMap;
 use std::process::exit;
 
 type Maker = fn(&mut Cases, &Hand);
 
-const FILES: [(&str, Maker); 9] = [
-    ("chars", chars::make),
-    ("escapes", escapes::make),
-    ("cuts", cuts::make),
-    ("numbers", numbers::make),
-    ("values", values::make),
-    ("lines", lines::make),
-    ("logs", logs::make),
-    ("listings", listings::make),
-    ("nights", nights::make),
+/// Each with its group's number in the program `vectors`, which does not ask the last.
+const FILES: [(&str, u8, Maker); 9] = [
+    ("chars", 1, chars::make),
+    ("escapes", 4, escapes::make),
+    ("cuts", 3, cuts::make),
+    ("numbers", 2, numbers::make),
+    ("values", 5, values::make),
+    ("lines", 6, lines::make),
+    ("logs", 7, logs::make),
+    ("listings", 8, listings::make),
+    ("nights", 0, nights::make),
 ];
 
 fn main() {
@@ -41,14 +44,23 @@ fn main() {
         exit(2);
     };
     let hand = Hand::in_folder(hand_dir);
-    for (name, make) in FILES {
+    let mut groups = BTreeMap::new();
+    for (name, group, make) in FILES {
         let mut cases = Cases::default();
         make(&mut cases, &hand);
-        let path = format!("{out_dir}/{name}.bin");
-        if let Err(error) = std::fs::write(&path, cases.bytes()) {
-            eprintln!("generator: {path}: {error}");
-            exit(1);
-        }
-        println!("{name}: {}", cases.summary());
+        write(out_dir, name, &cases);
+        groups.insert(group, cases);
     }
+    let mut cases = Cases::default();
+    control::make(&mut cases, &groups);
+    write(out_dir, "control", &cases);
+}
+
+fn write(out_dir: &str, name: &str, cases: &Cases) {
+    let path = format!("{out_dir}/{name}.bin");
+    if let Err(error) = std::fs::write(&path, cases.bytes()) {
+        eprintln!("generator: {path}: {error}");
+        exit(1);
+    }
+    println!("{name}: {}", cases.summary());
 }

@@ -1,77 +1,59 @@
-// Cases of the crates escapes and keys.
+// Cases of the crates escapes and keys. A text is expected, or a refusal of one byte: the other of the two is empty.
+use crate::answers;
 use crate::little;
 use escapes::Decoded;
 use keys::Spelled;
 
-fn is_number(e: u8, answer: &[u8]) -> bool {
-    if answer.len() != 1 {
-        return false;
-    }
-    answer[0] == e
-}
-
-// The first n bytes of the output are the answer, and the next byte is as it was.
-fn is_answer(out: &[u8], n: usize, answer: &[u8]) -> bool {
-    if n >= out.len() {
-        return false;
-    }
-    if out[n] != 77 {
-        return false;
-    }
-    buffers::same(little::prefix(out, n), answer)
-}
-
-fn decode_case(input: &[u8], answer: &[u8]) -> bool {
-    let mut out = [77u8; 70_001];
-    let decoded = escapes::decode(&mut out, input);
+fn same_decoded(decoded: Decoded, text: &[u8], refusal: &[u8]) -> bool {
     match decoded {
-        Decoded::Written(n) => is_answer(&out, n, answer),
-        Decoded::Refused(_) => false,
+        Decoded::Written(n) => (n == text.len()) & (refusal.len() == 0),
+        Decoded::Refused(e) => answers::is(refusal, 1, little::wide(e), 0),
     }
 }
 
-fn decode_refused_case(input: &[u8], answer: &[u8]) -> bool {
-    let mut out = [77u8; 70_001];
-    let decoded = escapes::decode(&mut out, input);
-    match decoded {
-        Decoded::Written(_) => false,
-        Decoded::Refused(e) => is_number(e, answer),
-    }
-}
-
-// The type behind its length, and then the id; the lengths take `head` bytes.
-fn key_case(input: &[u8], head: usize, length: usize, answer: &[u8], refused: bool) -> bool {
-    if head > input.len() {
-        return false;
-    }
-    let rest = &input[head..];
-    if length > rest.len() {
-        return false;
-    }
-    let mut out = [77u8; 32_768];
-    let spelled = keys::spell_key(&mut out, little::prefix(rest, length), &rest[length..]);
+fn same_spelled(spelled: Spelled, text: &[u8], refusal: &[u8]) -> bool {
     match spelled {
-        Spelled::Written(n) => {
-            if refused {
-                return false;
-            }
-            is_answer(&out, n, answer)
-        }
-        Spelled::Refused(e) => {
-            if !refused {
-                return false;
-            }
-            is_number(e, answer)
-        }
+        Spelled::Written(n) => (n == text.len()) & (refusal.len() == 0),
+        Spelled::Refused(e) => answers::is(refusal, 1, little::wide(e), 0),
     }
 }
 
-pub fn agrees(op: usize, input: &[u8], answer: &[u8]) -> bool {
+fn decode_case(input: &[u8], text: &[u8], refusal: &[u8], wrong: usize) -> bool {
+    let mut out = [77u8; answers::OUTPUT];
+    let decoded = escapes::decode(&mut out, input);
+    same_decoded(decoded, text, refusal) & answers::output_holds(&out, text, wrong)
+}
+
+// A type of so many bytes, and then the id.
+fn key_case(input: &[u8], length: usize, text: &[u8], refusal: &[u8], wrong: usize) -> bool {
+    let mut out = [77u8; answers::OUTPUT];
+    let spelled = keys::spell_key(
+        &mut out,
+        little::prefix(input, length),
+        little::behind(input, length),
+    );
+    same_spelled(spelled, text, refusal) & answers::output_holds(&out, text, wrong)
+}
+
+pub fn agrees(op: usize, input: &[u8], answer: &[u8], wrong: usize) -> bool {
+    let none = little::prefix(answer, 0);
     match op {
-        1 => decode_case(input, answer),
-        2 => key_case(input, 2, little::two(input, 0) as usize, answer, false),
-        3 => decode_refused_case(input, answer),
-        4 => key_case(input, 4, little::four(input, 0) as usize, answer, true),
+        1 => decode_case(input, answer, none, wrong),
+        2 => key_case(
+            little::behind(input, 2),
+            little::two(input, 0) as usize,
+            answer,
+            none,
+            wrong,
+        ),
+        3 => decode_case(input, none, answer, wrong),
+        4 => key_case(
+            little::behind(input, 4),
+            little::four(input, 0) as usize,
+            none,
+            answer,
+            wrong,
+        ),
         _ => false,
     }
 }

@@ -1,49 +1,29 @@
 // Cases of the crate lines: what a line gives and what the tables then hold.
+use crate::answers;
+use crate::little;
 use crate::packs;
+use crate::packs::Lent;
 use lines::LineRead;
 
 // 0 and the refusal, or 1 and the pack, or 2 for a blank line.
-fn same_line(read: LineRead, kinds: &[u8], numbers: &[u64], texts: &[u8], answer: &[u8]) -> bool {
+fn same_line(read: LineRead, answer: &[u8]) -> bool {
     match read {
-        LineRead::Event(front) => {
-            let nodes = front.nodes;
-            let count = front.texts;
-            if !packs::same_pack(kinds, numbers, texts, nodes, count, answer) {
-                return false;
-            }
-            packs::cleared(kinds, numbers, texts, nodes, count)
-        }
-        LineRead::Blank => {
-            if answer.len() != 1 {
-                return false;
-            }
-            if answer[0] != 2 {
-                return false;
-            }
-            packs::cleared(kinds, numbers, texts, 0, 0)
-        }
-        LineRead::Refused(e) => {
-            if answer.len() != 2 {
-                return false;
-            }
-            if answer[0] != 0 {
-                return false;
-            }
-            if answer[1] != e {
-                return false;
-            }
-            packs::left_by(e, kinds, numbers, texts)
-        }
+        LineRead::Event(front) => packs::is_pack(answer, front),
+        LineRead::Blank => answers::is(answer, 1, 2, 0),
+        LineRead::Refused(e) => answers::is(answer, 2, 0, little::wide(e)),
     }
 }
 
-pub fn agrees(
-    kinds: &mut [u8],
-    numbers: &mut [u64],
-    texts: &mut [u8],
-    input: &[u8],
-    answer: &[u8],
-) -> bool {
-    let read = lines::read_line(kinds, numbers, texts, input);
-    same_line(read, kinds, numbers, texts, answer)
+pub fn agrees(lent: Lent, input: &[u8], answer: &[u8], wrong: usize) -> bool {
+    let mut kinds = [77u8; packs::KINDS];
+    let mut numbers = [77u64; packs::NUMBERS];
+    let mut texts = [77u8; packs::TEXTS];
+    let read = lines::read_line(
+        little::first_bytes(&mut kinds, lent.kinds),
+        little::first_numbers(&mut numbers, lent.numbers),
+        little::first_bytes(&mut texts, lent.texts),
+        input,
+    );
+    let pack = answers::written(answer);
+    same_line(read, answer) & packs::left_by(answer, pack, &kinds, &numbers, &texts, wrong)
 }

@@ -2,7 +2,9 @@
 // A section is a group (one byte: which crate is asked), a count (u32) and so many cases; a case is an op (one byte), an input
 // and an answer, each behind its length (u32). Numbers are little-endian; vectors/README.md has the ops.
 // Input that is cut short or too long for the buffers ends the replay and is told.
+mod answers;
 mod chars_cases;
+mod control;
 mod cuts_cases;
 mod escapes_cases;
 mod input;
@@ -12,14 +14,16 @@ mod little;
 mod logs_cases;
 mod numbers_cases;
 mod packs;
-mod tables;
 mod values_cases;
 
-use crate::input::Got;
-use crate::input::read_byte;
+use crate::input::END;
 use crate::input::read_number;
 use crate::input::read_text;
+use crate::packs::Lent;
 use libc::STDOUT_FILENO;
+
+// A text of a case, and its buffer's length.
+const LONGEST: usize = 70_000;
 
 // How many cases were read, how many answers differ, and the last case that does, counted from one.
 pub struct Tally {
@@ -29,72 +33,94 @@ pub struct Tally {
     pub whole: bool,
 }
 
+// Was a case read whole, and does its answer agree?
+pub struct Seen {
+    pub whole: bool,
+    pub same: bool,
+}
+
 // Does our function give this answer?
-fn agrees(group: usize, op: usize, input: &[u8], answer: &[u8]) -> bool {
+fn asked(group: usize, op: usize, input: &[u8], answer: &[u8], wrong: usize) -> bool {
     match group {
         1 => chars_cases::agrees(op, input, answer),
         2 => numbers_cases::agrees(op, input, answer),
-        3 => cuts_cases::agrees(op, input, answer),
-        4 => escapes_cases::agrees(op, input, answer),
-        5 => values_cases::agrees(op, input, answer),
-        6 => tables::agrees(group, op, input, answer),
-        7 => tables::agrees(group, op, input, answer),
-        8 => tables::agrees(group, op, input, answer),
+        3 => cuts_cases::agrees(op, input, answer, wrong),
+        4 => escapes_cases::agrees(op, input, answer, wrong),
+        5 => (op == 1) & values_cases::agrees(input, answer),
+        6 => Lent::has(op) & lines_cases::agrees(Lent::by_op(op), input, answer, wrong),
+        7 => Lent::has(op) & logs_cases::agrees(Lent::by_op(op), input, answer, wrong),
+        8 => Lent::has(op) & listings_cases::agrees(Lent::by_op(op), input, answer, wrong),
         _ => false,
     }
 }
 
-fn counted(tally: Tally, same: bool) -> Tally {
+// A case of the control names group and op before its input.
+fn agrees(group: usize, op: usize, input: &[u8], answer: &[u8]) -> bool {
+    if group == control::GROUP {
+        let group = little::byte(input, 0) as usize;
+        return asked(
+            group,
+            little::byte(input, 1) as usize,
+            little::behind(input, 2),
+            answer,
+            op,
+        );
+    }
+    asked(group, op, input, answer, 0)
+}
+
+fn counted(tally: Tally, seen: Seen) -> Tally {
+    if !seen.whole {
+        return Tally {
+            cases: tally.cases,
+            differ: tally.differ,
+            last: tally.last,
+            whole: false,
+        };
+    }
     let cases = std::num::wrapping_add_u64(tally.cases, 1);
-    if same {
+    if seen.same {
         return Tally {
             cases,
             differ: tally.differ,
             last: tally.last,
-            whole: tally.whole,
+            whole: true,
         };
     }
     Tally {
         cases,
         differ: std::num::wrapping_add_u64(tally.differ, 1),
         last: cases,
-        whole: tally.whole,
-    }
-}
-
-fn cut_short(tally: Tally) -> Tally {
-    Tally {
-        cases: tally.cases,
-        differ: tally.differ,
-        last: tally.last,
-        whole: false,
+        whole: true,
     }
 }
 
 // One case of a group.
-fn replay_case(group: usize, input: &mut [u8], answer: &mut [u8], tally: Tally) -> Tally {
-    let Got::Number(op) = read_byte() else {
-        return cut_short(tally);
-    };
-    let Got::Number(given) = read_text(input) else {
-        return cut_short(tally);
-    };
-    let Got::Number(expected) = read_text(answer) else {
-        return cut_short(tally);
-    };
-    if given > input.len() {
-        return cut_short(tally);
+fn replay_case(group: usize, input: &mut [u8; LONGEST], answer: &mut [u8; LONGEST]) -> Seen {
+    let op = read_number(1);
+    let given = read_text(input);
+    let expected = read_text(answer);
+    // A text that the input has not whole, or that is too long, ends past its buffer.
+    if (given > LONGEST) | (expected > LONGEST) {
+        return Seen {
+            whole: false,
+            same: false,
+        };
     }
-    if expected > answer.len() {
-        return cut_short(tally);
+    Seen {
+        whole: true,
+        same: agrees(
+            group,
+            op,
+            little::prefix(input, given),
+            little::prefix(answer, expected),
+        ),
     }
-    counted(
-        tally,
-        agrees(group, op, &input[..given], &answer[..expected]),
-    )
 }
 
-fn replay_section(group: usize, count: usize, input: &mut [u8], answer: &mut [u8]) -> Tally {
+fn replay_section(group: usize, count: usize) -> Tally {
+    let mut input = [0u8; LONGEST];
+    let mut answer = [0u8; LONGEST];
     let mut tally = Tally {
         cases: 0,
         differ: 0,
@@ -103,7 +129,8 @@ fn replay_section(group: usize, count: usize, input: &mut [u8], answer: &mut [u8
     };
     let mut left = count;
     while left > 0 {
-        tally = replay_case(group, input, answer, tally);
+        let seen = replay_case(group, &mut input, &mut answer);
+        tally = counted(tally, seen);
         left -= 1;
         if !tally.whole {
             return tally;
@@ -116,17 +143,18 @@ fn print(text: &[u8]) {
     io::write_all(STDOUT_FILENO, text);
 }
 
+fn print_with(text: &[u8], n: u64) {
+    io::write_all(STDOUT_FILENO, text);
+    io::print_decimal(STDOUT_FILENO, n);
+}
+
 fn report(group: usize, tally: Tally) {
-    print(b"group ");
-    io::print_decimal(STDOUT_FILENO, group as u64);
-    print(b": ");
-    io::print_decimal(STDOUT_FILENO, tally.cases);
-    print(b" cases, ");
-    io::print_decimal(STDOUT_FILENO, tally.differ);
+    print_with(b"group ", group as u64);
+    print_with(b": ", tally.cases);
+    print_with(b" cases, ", tally.differ);
     print(b" differ");
     if tally.differ > 0 {
-        print(b", last case ");
-        io::print_decimal(STDOUT_FILENO, tally.last);
+        print_with(b", last case ", tally.last);
     }
     if !tally.whole {
         print(b", cut short");
@@ -135,18 +163,14 @@ fn report(group: usize, tally: Tally) {
 }
 
 fn main() {
-    let mut input = [0u8; 70_000];
-    let mut answer = [0u8; 70_000];
     let mut sections: usize = 0;
     while sections < 16 {
         sections += 1;
-        let Got::Number(group) = read_byte() else {
+        let group = read_number(1);
+        if group == END {
             return;
-        };
-        let Got::Number(count) = read_number() else {
-            print(b"cut short\n");
-            return;
-        };
-        report(group, replay_section(group, count, &mut input, &mut answer));
+        }
+        let count = read_number(4);
+        report(group, replay_section(group, count));
     }
 }

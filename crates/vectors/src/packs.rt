@@ -1,116 +1,128 @@
-// The pack tables after a call, beside the oracle's pack. Every entry was 77 when they were lent.
+// The pack tables that are lent, every entry 77, and what they then hold beside the oracle's pack.
+use crate::answers;
+use crate::control;
 use crate::little;
+use format::Front;
 use format::Log;
-use format::Refusal;
 
-// The numbers of the first nodes, eight bytes each from a place of the answer on.
-fn same_numbers(numbers: &[u64], nodes: usize, answer: &[u8], from: usize) -> bool {
-    if nodes > numbers.len() {
-        return false;
-    }
-    let mut i: usize = 0;
-    while i < nodes {
-        if numbers[i] != little::eight(answer, little::along(from, i * 8)) {
-            return false;
-        }
-        i += 1;
-    }
-    true
+// Longer than what a call uses, so that a call that goes too far shows.
+pub const KINDS: usize = 8_193;
+
+pub const NUMBERS: usize = 8_195;
+
+pub const TEXTS: usize = 32_775;
+
+// An answer that begins with 0 and refusal 1, as a number.
+const TABLE_REFUSED: u64 = 256;
+
+// How many first entries of each table are lent.
+pub struct Lent {
+    pub kinds: usize,
+    pub numbers: usize,
+    pub texts: usize,
 }
 
-// 1, node count, text byte count, then kinds, numbers and texts.
-pub fn same_pack(
+impl Lent {
+    pub fn has(op: usize) -> bool {
+        (op > 0) & (op < 6)
+    }
+
+    // Ops 1 to 5: longer than used, just so long as used, and an entry short of one.
+    pub fn by_op(op: usize) -> Lent {
+        match op {
+            1 => Lent {
+                kinds: 8_193,
+                numbers: 8_195,
+                texts: 32_775,
+            },
+            3 => Lent {
+                kinds: 8_191,
+                numbers: 8_192,
+                texts: 32_768,
+            },
+            4 => Lent {
+                kinds: 8_192,
+                numbers: 8_191,
+                texts: 32_768,
+            },
+            5 => Lent {
+                kinds: 8_192,
+                numbers: 8_192,
+                texts: 32_767,
+            },
+            _ => Lent {
+                kinds: 8_192,
+                numbers: 8_192,
+                texts: 32_768,
+            },
+        }
+    }
+}
+
+// 1 and a pack of so many nodes and bytes of text: their counts in four bytes each, then kinds, numbers and texts.
+pub fn is_pack(answer: &[u8], front: Front) -> bool {
+    let nodes = front.nodes;
+    let count = front.texts;
+    (little::byte(answer, 0) == 1)
+        & (little::four(answer, 1) == (nodes as u64))
+        & (little::four(answer, 5) == (count as u64))
+        & (answer.len() == little::along(little::along(9, count), nodes % 65_536 * 9))
+}
+
+// Do the tables hold a pack, zeros as far as they are used, and behind that what was lent? Without a pack it is empty.
+pub fn hold(
     kinds: &[u8],
     numbers: &[u64],
     texts: &[u8],
-    nodes: usize,
-    count: usize,
-    answer: &[u8],
+    pack: &[u8],
+    used: Front,
+    wrong: usize,
 ) -> bool {
-    if little::byte(answer, 0) != 1 {
-        return false;
-    }
-    if little::four(answer, 1) != (nodes as u64) {
-        return false;
-    }
-    if little::four(answer, 5) != (count as u64) {
-        return false;
-    }
-    let behind_kinds = little::along(9, nodes);
-    let behind_numbers = little::along(behind_kinds, nodes % 65_536 * 8);
-    if answer.len() != little::along(behind_numbers, count) {
-        return false;
-    }
-    if !buffers::same(little::prefix(kinds, nodes), little::part(answer, 9, nodes)) {
-        return false;
-    }
-    if !same_numbers(numbers, nodes, answer, behind_kinds) {
-        return false;
-    }
-    buffers::same(
-        little::prefix(texts, count),
-        little::part(answer, behind_numbers, count),
+    let nodes = little::four(pack, 0) as usize;
+    let behind_kinds = little::along(8, nodes);
+    let behind_numbers = little::along(behind_kinds, nodes * 8);
+    answers::bytes_hold(
+        kinds,
+        little::part(pack, 8, nodes),
+        used.nodes,
+        control::KINDS,
+        wrong,
     )
+        & answers::numbers_hold(
+            numbers,
+            little::part(pack, behind_kinds, nodes * 8),
+            used.nodes,
+            control::NUMBERS,
+            wrong,
+        )
+        & answers::bytes_hold(
+            texts,
+            little::behind(pack, behind_numbers),
+            used.texts,
+            control::TEXTS,
+            wrong,
+        )
 }
 
-// Is every byte from one place up to another this one?
-pub fn all_bytes(s: &[u8], from: usize, to: usize, b: u8) -> bool {
-    if to > s.len() {
-        return false;
+// How far a call with this answer uses the tables: not at all where it refuses them as too short.
+fn used_by(answer: &[u8]) -> Front {
+    if little::two(answer, 0) == TABLE_REFUSED {
+        return Log::empty_front();
     }
-    let mut i = from;
-    while i < to {
-        if s[i] != b {
-            return false;
-        }
-        i += 1;
+    Front {
+        nodes: Log::NODES,
+        texts: Log::TEXTS,
     }
-    true
 }
 
-fn all_numbers(s: &[u64], from: usize, to: usize, n: u64) -> bool {
-    if to > s.len() {
-        return false;
-    }
-    let mut i = from;
-    while i < to {
-        if s[i] != n {
-            return false;
-        }
-        i += 1;
-    }
-    true
-}
-
-// Are the tables as they were lent, from these places on?
-fn untouched(kinds: &[u8], numbers: &[u64], texts: &[u8], nodes: usize, count: usize) -> bool {
-    if !all_bytes(kinds, nodes, kinds.len(), 77) {
-        return false;
-    }
-    if !all_numbers(numbers, nodes, numbers.len(), 77) {
-        return false;
-    }
-    all_bytes(texts, count, texts.len(), 77)
-}
-
-// Zeros from these places on as far as the tables are used, and behind that nothing changed?
-pub fn cleared(kinds: &[u8], numbers: &[u64], texts: &[u8], nodes: usize, count: usize) -> bool {
-    if !all_bytes(kinds, nodes, Log::NODES, 0) {
-        return false;
-    }
-    if !all_numbers(numbers, nodes, Log::NODES, 0) {
-        return false;
-    }
-    if !all_bytes(texts, count, Log::TEXTS, 0) {
-        return false;
-    }
-    untouched(kinds, numbers, texts, Log::NODES, Log::TEXTS)
-}
-
-// What a refusal leaves: tables that are too short as they were, others cleared.
-pub fn left_by(refusal: u8, kinds: &[u8], numbers: &[u64], texts: &[u8]) -> bool {
-    if refusal == Refusal::TABLE_TOO_SHORT {
-        return untouched(kinds, numbers, texts, 0, 0);
-    }
-    cleared(kinds, numbers, texts, 0, 0)
+// What a call with this answer leaves in the tables.
+pub fn left_by(
+    answer: &[u8],
+    pack: &[u8],
+    kinds: &[u8; KINDS],
+    numbers: &[u64; NUMBERS],
+    texts: &[u8; TEXTS],
+    wrong: usize,
+) -> bool {
+    hold(kinds, numbers, texts, pack, used_by(answer), wrong)
 }

@@ -1,18 +1,15 @@
 -- `vectors::main` is safe and ends: it reads sixteen sections at most.
 -- Assumes nothing.
-use mathlib.Core.Path.{_≡_}
 use Prim.Native.Nat.{_≤_, _-_}
-use native.Mathlib.Omega.{arith}
 use borrow.Author.Needs.{needs}
-use lib.ListN.{length}
 use Rattle.vectors.proofs.main.Statement.{statement}
 use Rattle.vectors.proofs.main.Tie as tie
 
 abbrev Inv-loop : tie.InvT-loop
-Inv-loop input₀ answer₀ sections₀ t6 input answer sections = (sections ≤ 16) × (length input ≡ 70000) × (length answer ≡ 70000)
+Inv-loop sections₀ sections = sections ≤ 16
 
 abbrev μ-loop : tie.MeasureT-loop
-μ-loop input₀ answer₀ sections₀ t6 input answer sections = 16 - sections
+μ-loop sections₀ sections = 16 - sections
 
 loop-holds : tie.Need-loop-holds Inv-loop μ-loop
 loop-holds c = search needs
@@ -20,41 +17,14 @@ loop-holds c = search needs
 add-sections : tie.Need-add-sections Inv-loop μ-loop
 add-sections c = search needs
 
-read-byte-requires : tie.Need-read-byte-requires Inv-loop μ-loop
-read-byte-requires c κs = search needs
-
-enum-known-group : tie.Need-enum-known-group Inv-loop μ-loop
-enum-known-group c = search needs
-
-enum-told : tie.Need-enum-told Inv-loop μ-loop
-enum-told c = search needs
+read-number-requires : tie.Need-read-number-requires Inv-loop μ-loop
+read-number-requires c κs = search needs
 
 returns : tie.Need-returns Inv-loop μ-loop
 returns c = search needs
 
-read-number-requires : tie.Need-read-number-requires Inv-loop μ-loop
-read-number-requires c κs = search needs
-
-enum-known-count : tie.Need-enum-known-count Inv-loop μ-loop
-enum-known-count c = search needs
-
-enum-told-2 : tie.Need-enum-told-2 Inv-loop μ-loop
-enum-told-2 c = search needs
-
-slice-aggregate-print : tie.Need-slice-aggregate-print Inv-loop μ-loop
-slice-aggregate-print c = search needs
-
-print-requires : tie.Need-print-requires Inv-loop μ-loop
-print-requires c κs = search needs
-
-returns-2 : tie.Need-returns-2 Inv-loop μ-loop
-returns-2 c = search needs
-
-slice-aggregate-replay-section : tie.Need-slice-aggregate-replay-section Inv-loop μ-loop
-slice-aggregate-replay-section c = search needs
-
-slice-aggregate-replay-section-2 : tie.Need-slice-aggregate-replay-section-2 Inv-loop μ-loop
-slice-aggregate-replay-section-2 c = search needs
+read-number-requires-2 : tie.Need-read-number-requires-2 Inv-loop μ-loop
+read-number-requires-2 c κs = search needs
 
 replay-section-requires : tie.Need-replay-section-requires Inv-loop μ-loop
 replay-section-requires c κs = search needs
@@ -68,8 +38,8 @@ loop-less c = search needs
 loop-again : tie.Need-loop-again Inv-loop μ-loop
 loop-again c = search needs
 
-returns-3 : tie.Need-returns-3 Inv-loop μ-loop
-returns-3 c = search needs
+returns-2 : tie.Need-returns-2 Inv-loop μ-loop
+returns-2 c = search needs
 
 pub main-spec : {M : Type 1} → statement M
 main-spec =
@@ -79,20 +49,11 @@ main-spec =
     μ-loop
     loop-holds
     add-sections
-    read-byte-requires
-    enum-known-group
-    enum-told
-    returns
     read-number-requires
-    enum-known-count
-    enum-told-2
-    slice-aggregate-print
-    print-requires
-    returns-2
-    slice-aggregate-replay-section
-    slice-aggregate-replay-section-2
+    returns
+    read-number-requires-2
     replay-section-requires
     report-requires
     loop-less
     loop-again
-    returns-3)
+    returns-2)

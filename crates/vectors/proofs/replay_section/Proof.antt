@@ -1,31 +1,26 @@
 -- `vectors::replay_section` is safe and ends: one case less is left each turn.
 -- Assumes nothing.
-use mathlib.Core.Path.{_≡_, refl}
 use borrow.Author.Needs.{needs}
-use lib.ListN.{length}
 use Rattle.vectors.proofs.replay_section.Statement.{statement}
 use Rattle.vectors.proofs.replay_section.Tie as tie
 
 abbrev Inv-loop : tie.InvT-loop
-Inv-loop group count input₀ answer₀ tally₀ left₀ input answer tally left = (length input ≡ length input₀) × (length answer ≡ length answer₀)
+Inv-loop group count input₀ answer₀ tally₀ left₀ input answer tally left = Unit
 
 abbrev μ-loop : tie.MeasureT-loop
 μ-loop group count input₀ answer₀ tally₀ left₀ input answer tally left = left
 
 loop-holds : tie.Need-loop-holds Inv-loop μ-loop
-loop-holds c = (refl, refl)
+loop-holds c = tt
 
 replay-case-requires : tie.Need-replay-case-requires Inv-loop μ-loop
 replay-case-requires c κs = tt
 
+counted-requires : tie.Need-counted-requires Inv-loop μ-loop
+counted-requires c κs = tt
+
 sub-left : tie.Need-sub-left Inv-loop μ-loop
 sub-left c = search needs
-
-same-length : tie.Need-same-length Inv-loop μ-loop
-same-length c = search needs
-
-same-length-2 : tie.Need-same-length-2 Inv-loop μ-loop
-same-length-2 c = search needs
 
 returns : tie.Need-returns Inv-loop μ-loop
 returns c = search needs
@@ -34,13 +29,7 @@ loop-less : tie.Need-loop-less Inv-loop μ-loop
 loop-less c = search needs
 
 loop-again : tie.Need-loop-again Inv-loop μ-loop
-loop-again c = search needs
-
-same-length-3 : tie.Need-same-length-3 Inv-loop μ-loop
-same-length-3 c = search needs
-
-same-length-4 : tie.Need-same-length-4 Inv-loop μ-loop
-same-length-4 c = search needs
+loop-again c = tt
 
 returns-2 : tie.Need-returns-2 Inv-loop μ-loop
 returns-2 c = search needs
@@ -53,12 +42,9 @@ replay-section-spec =
     μ-loop
     loop-holds
     replay-case-requires
+    counted-requires
     sub-left
-    same-length
-    same-length-2
     returns
     loop-less
     loop-again
-    same-length-3
-    same-length-4
     returns-2)
