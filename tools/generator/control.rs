@@ -1,7 +1,8 @@
 //! The control: true cases of the other groups with something made wrong, so that each must
 //! differ. Op: what is wrong, 0 the answer, else the look at a table that is to expect another
-//! value than it should: the table's number for its zeros, and four more for what was lent. The
-//! group and the op that are asked stand before the input.
+//! value than it should: the table's number for its zeros, and four more for what was lent, or the
+//! table of a cut that has another length. The group and the op that are asked stand before the
+//! input.
 
 use crate::cases::{Case, Cases};
 use std::collections::BTreeMap;
@@ -19,6 +20,8 @@ const OPS: [u8; 8] = [4, 2, 7, 4, 1, 5, 5, 5];
 const TABLES: [u8; 3] = [1, 2, 3];
 const OUTPUT: u8 = 4;
 const LENT: u8 = 4;
+/// The tables of a cut that the places just fill, and that are an entry short.
+const CUT_TABLES: [u8; 2] = [9, 10];
 /// What is lent, as a byte and as a number.
 const FILL: [u8; 8] = [77, 0, 0, 0, 0, 0, 0, 0];
 
@@ -36,6 +39,9 @@ pub fn make(cases: &mut Cases, groups: &BTreeMap<u8, Cases>) {
                 for look in looks(group, case) {
                     cases.push(look, &asked(group, case), &case.answer);
                 }
+                if let Some(question) = asked_as_refused(group, case) {
+                    cases.push(0, &question, &[2]);
+                }
             }
         }
     }
@@ -43,6 +49,18 @@ pub fn make(cases: &mut Cases, groups: &BTreeMap<u8, Cases>) {
 
 fn asked(group: u8, case: &Case) -> Vec<u8> {
     [&[group, case.op], &case.input[..]].concat()
+}
+
+/// The same input under the op of its group whose inputs are refused. The length of a type has two
+/// more bytes there.
+fn asked_as_refused(group: u8, case: &Case) -> Option<Vec<u8>> {
+    let input = &case.input;
+    match (group, case.op) {
+        (CUTS, 1) => Some([&[group, 7], &input[..]].concat()),
+        (ESCAPES, 1) => Some([&[group, 3], &input[..]].concat()),
+        (ESCAPES, 2) => Some([&[group, 4], &input[..2], &[0, 0], &input[2..]].concat()),
+        _ => None,
+    }
 }
 
 /// Refused because a table is too short.
@@ -105,6 +123,9 @@ fn looks(group: u8, case: &Case) -> Vec<u8> {
     }
     if matches!((group, case.op), (CUTS, 1 | 7) | (ESCAPES | LISTINGS, _)) {
         looks.push(OUTPUT + LENT);
+    }
+    if (group, case.op) == (CUTS, 1) && !case.answer.is_empty() {
+        looks.extend(CUT_TABLES);
     }
     looks
 }

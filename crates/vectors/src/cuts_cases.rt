@@ -27,11 +27,13 @@ fn cut_in(room: usize, body: &[u8], places: &[u8], refusal: &[u8], wrong: usize)
 fn body_case(body: &[u8], places: &[u8], wrong: usize) -> bool {
     let n = places.len() / 8;
     let none = little::prefix(places, 0);
-    let enough = cut_in(4_097, body, places, none, wrong) & cut_in(n, body, places, none, wrong);
+    let full = std::num::wrapping_sub_usize(n, (wrong == control::JUST_FULL) as usize);
+    let enough = cut_in(4_097, body, places, none, wrong) & cut_in(full, body, places, none, wrong);
     if n == 0 {
         return enough;
     }
-    enough & cut_in(n - 1, body, none, b"\x05", wrong)
+    let short = little::along(n - 1, (wrong == control::ONE_SHORT) as usize);
+    enough & cut_in(short, body, none, b"\x05", wrong)
 }
 
 // 0, or 1 and the place in four bytes.

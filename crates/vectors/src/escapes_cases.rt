@@ -26,12 +26,10 @@ fn decode_case(input: &[u8], text: &[u8], refusal: &[u8], wrong: usize) -> bool 
 
 // A type of so many bytes, and then the id.
 fn key_case(input: &[u8], length: usize, text: &[u8], refusal: &[u8], wrong: usize) -> bool {
+    let ty = little::prefix(input, length);
+    let id = little::behind(input, length);
     let mut out = [77u8; answers::OUTPUT];
-    let spelled = keys::spell_key(
-        &mut out,
-        little::prefix(input, length),
-        little::behind(input, length),
-    );
+    let spelled = keys::spell_key(&mut out, ty, id);
     same_spelled(spelled, text, refusal) & answers::output_holds(&out, text, wrong)
 }
 

@@ -15,6 +15,7 @@ fn same_line(read: LineRead, answer: &[u8]) -> bool {
 }
 
 pub fn agrees(lent: Lent, input: &[u8], answer: &[u8], wrong: usize) -> bool {
+    let pack = answers::written(answer);
     let mut kinds = [77u8; packs::KINDS];
     let mut numbers = [77u64; packs::NUMBERS];
     let mut texts = [77u8; packs::TEXTS];
@@ -24,6 +25,5 @@ pub fn agrees(lent: Lent, input: &[u8], answer: &[u8], wrong: usize) -> bool {
         little::first_bytes(&mut texts, lent.texts),
         input,
     );
-    let pack = answers::written(answer);
     same_line(read, answer) & packs::left_by(answer, pack, &kinds, &numbers, &texts, wrong)
 }

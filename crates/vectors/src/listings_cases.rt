@@ -18,22 +18,25 @@ fn same_listed(listed: Listed, answer: &[u8]) -> bool {
 
 // The event's number in eight bytes, the length of the output in four, then the line.
 pub fn agrees(lent: Lent, input: &[u8], answer: &[u8], wrong: usize) -> bool {
+    let room = little::four(input, 8) as usize;
+    let line = little::behind(input, 12);
+    let number = little::eight(input, 0);
+    let listing = answers::written(answer);
+    let none = little::prefix(answer, 0);
     let mut kinds = [77u8; packs::KINDS];
     let mut numbers = [77u64; packs::NUMBERS];
     let mut texts = [77u8; packs::TEXTS];
     let mut out = [77u8; answers::OUTPUT];
-    let room = little::four(input, 8) as usize;
     let listed = listing::list_line(
         little::first_bytes(&mut kinds, lent.kinds),
         little::first_numbers(&mut numbers, lent.numbers),
         little::first_bytes(&mut texts, lent.texts),
         little::first_bytes(&mut out, room),
-        little::behind(input, 12),
-        little::eight(input, 0),
+        line,
+        number,
     );
-    let none = little::prefix(answer, 0);
     (room <= answers::OUTPUT)
         & same_listed(listed, answer)
-        & answers::output_holds(&out, answers::written(answer), wrong)
+        & answers::output_holds(&out, listing, wrong)
         & packs::left_by(answer, none, &kinds, &numbers, &texts, wrong)
 }

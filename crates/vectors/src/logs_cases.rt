@@ -17,6 +17,7 @@ fn same_judged(judged: Judged, answer: &[u8]) -> bool {
 }
 
 pub fn agrees(lent: Lent, input: &[u8], answer: &[u8], wrong: usize) -> bool {
+    let none = little::prefix(answer, 0);
     let mut kinds = [77u8; packs::KINDS];
     let mut numbers = [77u64; packs::NUMBERS];
     let mut texts = [77u8; packs::TEXTS];
@@ -26,6 +27,5 @@ pub fn agrees(lent: Lent, input: &[u8], answer: &[u8], wrong: usize) -> bool {
         little::first_bytes(&mut texts, lent.texts),
         input,
     );
-    let none = little::prefix(answer, 0);
     same_judged(judged, answer) & packs::left_by(answer, none, &kinds, &numbers, &texts, wrong)
 }
