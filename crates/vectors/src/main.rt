@@ -54,19 +54,42 @@ fn asked(group: usize, op: usize, input: &[u8], answer: &[u8], wrong: usize) -> 
     }
 }
 
+// What a case asks: which group and op, from which byte of its input on, and which look is to expect something wrong.
+struct Question {
+    group: usize,
+    op: usize,
+    from: usize,
+    wrong: usize,
+}
+
 // A case of the control names group and op before its input.
-fn agrees(group: usize, op: usize, input: &[u8], answer: &[u8]) -> bool {
+fn question_of(group: usize, op: usize, input: &[u8]) -> Question {
     if group == control::GROUP {
-        let group = little::byte(input, 0) as usize;
-        return asked(
-            group,
-            little::byte(input, 1) as usize,
-            little::behind(input, 2),
-            answer,
-            op,
-        );
+        return Question {
+            group: little::byte(input, 0) as usize,
+            op: little::byte(input, 1) as usize,
+            from: 2,
+            wrong: op,
+        };
     }
-    asked(group, op, input, answer, 0)
+    Question {
+        group,
+        op,
+        from: 0,
+        wrong: 0,
+    }
+}
+
+// One call serves the control and the others, so that a comparison that does nothing shows.
+fn agrees(group: usize, op: usize, input: &[u8], answer: &[u8]) -> bool {
+    let q = question_of(group, op, input);
+    asked(
+        q.group,
+        q.op,
+        little::behind(input, q.from),
+        answer,
+        q.wrong,
+    )
 }
 
 fn counted(tally: Tally, seen: Seen) -> Tally {
