@@ -11,7 +11,7 @@ use Rattle.log_listing.specs.Stretch.{Falls}
 use Rattle.log_listing.specs.declared.Place.{Place}
 use Rattle.log_listing.specs.declared.Place.the-variants.{Start}
 use Rattle.log_listing.proofs.Pieces.{onward}
-use Rattle.guarantees.specs.Stretches.{Call, Keeps, Run, wrote}
+use Rattle.guarantees.specs.Stretches.{Call, CallAt, Run, wrote}
 use Rattle.guarantees.proofs.Stretched
 
 -- 1. Calls that begin at the start of any input and go on, each where the one before said, until the last: what they wrote, joined, is the
@@ -19,8 +19,12 @@ use Rattle.guarantees.proofs.Stretched
 pub stretches-joined : (s : List ℕ) (cs : List Call) → Run s Start cs → wrote cs ≡ nightListing s
 stretches-joined = Stretched.run-lists
 
--- 2. They come to an end: from call to call less is left.
-pub stretches-end : (s : List ℕ) (p : Place) (c : Call) → Keeps s p c → Falls s p (c .answer)
+-- 2. There are such calls for every input,
+pub stretches-exist : (s : List ℕ) → (cs : List Call) × Run s Start cs
+stretches-exist = Stretched.run-exists
+
+-- and whoever makes them comes to the end: from call to call less is left.
+pub stretches-end : (s : List ℕ) (p : Place) (c : Call) → CallAt s p c → Falls s p (c .answer)
 stretches-end s p c w = onward s p (c .lent) (c .answer) (c .output) w .falls
 
 -- 3. More than the limit need not be read: any start of the input that is longer than the limit lists as the whole does.

@@ -4,7 +4,7 @@ use mathlib.Core.Path.{_≡_, refl, sym, ap, _∙_}
 use mathlib.Core.Bool.{Bool, true, false, cond}
 use mathlib.Core.Logic.{⊎-elim}
 use mathlib.Core.List.{List, [], _∷_, _++_, append-assoc, append-nil}
-use Prim.Native.Nat.{ℕ, _+_, _-_, _%_, _^_, _≤_, _<_}
+use Prim.Native.Nat.{ℕ, zero, suc, _+_, _-_, _%_, _^_, _≤_, _<_}
 use native.Mathlib.Nat.{eq-or-lt-of-le}
 use native.Mathlib.Omega.{arith}
 use borrow.Author.Tests.{ltb-true, ltb-false, lt-leb}
@@ -24,8 +24,10 @@ use Rattle.logs.proofs.Cutting.{lines-last, lines-more}
 use Rattle.logs.proofs.Feeds.{line-end-within}
 use Rattle.logs.proofs.Judging.{too-long}
 use Rattle.log_listing.specs.Night.{lineText, eventIn, eventsFrom, countText, refusalText, nightText, nightListing}
-use Rattle.log_listing.specs.Stretch.{Piece, more, last, firstPiece, lineAt, linePiece, pieceAt, textOf, Written, count}
+use Rattle.log_listing.specs.Stretch.{Piece, more, last, firstPiece, lineAt, linePiece, pieceAt, textOf, stretchOf, Written, count, left, Falls}
+use Rattle.log_listing.specs.declared.Place.{Place}
 use Rattle.log_listing.specs.declared.Place.the-variants.{Start, Line}
+use Rattle.log_listing.proofs.Pieces.{onward}
 use Rattle.guarantees.proofs.Agreement.{accepted-iff}
 use Rattle.guarantees.specs.Stretches.{Call, behind, Run, wrote}
 
@@ -129,6 +131,28 @@ module _ (s : List ℕ) where
   unfolding Run pieceAt nightListing
   run-lists [] r = absurd r
   run-lists (c ∷ cs) r = run-judged (judgeLog s) refl c cs (r .0) (r .1)
+
+  -- a call that gives a piece
+  abbrev call-of : Piece → Call
+  call-of p = record { lent = []; answer = stretchOf p; output = textOf p ++ drop (length (textOf p)) [] }
+
+  gives : (p : Piece) → Written p [] (stretchOf p) (textOf p ++ drop (length (textOf p)) [])
+  gives p = record { answer = refl; output = refl }
+
+  -- one call, where those behind it are at hand
+  run-on : (p : Place) (x : Piece) → pieceAt s p ≡ x → Falls s p (stretchOf x) → ((q : Place) → left s q < left s p → (cs : List Call) × Run s q cs)
+      → (cs : List Call) × Run s p cs
+  unfolding Run
+  run-on p (more t q) e f on = let r = on q f in (call-of (more t q) ∷ r .0, (rw e (gives (more t q)), r .1))
+  run-on p (last t) e f on = (call-of (last t) ∷ [], (rw e (gives (last t)), refl))
+
+  -- less is left from call to call
+  run-from : (most : ℕ) (p : Place) → left s p ≤ most → (cs : List Call) × Run s p cs
+  run-from zero p h = run-on p (pieceAt s p) refl (onward s p [] _ _ (gives (pieceAt s p)) .falls) (λ q less. absurd (omega (arith, less, h)))
+  run-from (suc most) p h = run-on p (pieceAt s p) refl (onward s p [] _ _ (gives (pieceAt s p)) .falls) (λ q less. run-from most q (omega (arith, less, h)))
+
+  pub run-exists : (cs : List Call) × Run s Start cs
+  run-exists = run-from (left s Start) Start (omega arith)
 
   -- past the limit every text lists alike
   refused-long : textLimit < length s → nightListing s ≡ refusalText textTooLong 0

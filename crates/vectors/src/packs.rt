@@ -31,29 +31,29 @@ impl Lent {
     pub fn by_op(op: usize) -> Lent {
         match op {
             1 => Lent {
-                kinds: 8_193,
-                numbers: 8_195,
-                texts: 32_775,
+                kinds: KINDS,
+                numbers: NUMBERS,
+                texts: TEXTS,
             },
             3 => Lent {
-                kinds: 8_191,
-                numbers: 8_192,
-                texts: 32_768,
+                kinds: Log::NODES - 1,
+                numbers: Log::NODES,
+                texts: Log::TEXTS,
             },
             4 => Lent {
-                kinds: 8_192,
-                numbers: 8_191,
-                texts: 32_768,
+                kinds: Log::NODES,
+                numbers: Log::NODES - 1,
+                texts: Log::TEXTS,
             },
             5 => Lent {
-                kinds: 8_192,
-                numbers: 8_192,
-                texts: 32_767,
+                kinds: Log::NODES,
+                numbers: Log::NODES,
+                texts: Log::TEXTS - 1,
             },
             _ => Lent {
-                kinds: 8_192,
-                numbers: 8_192,
-                texts: 32_768,
+                kinds: Log::NODES,
+                numbers: Log::NODES,
+                texts: Log::TEXTS,
             },
         }
     }
