@@ -1,6 +1,6 @@
-mod OrderLaws
+pub mod OrderLaws
 pub mod Sorted
-mod MergeLaws
+pub mod MergeLaws
 mod LoopLaws
 mod PartLaws
 mod TextLaws
