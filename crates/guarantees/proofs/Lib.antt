@@ -14,3 +14,4 @@ mod EntryReading
 mod Stretched
 mod Facts
 mod Examples
+mod MergeOrder
