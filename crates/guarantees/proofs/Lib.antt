@@ -15,3 +15,4 @@ mod Stretched
 mod Facts
 mod Examples
 mod MergeOrder
+mod LaidLines
