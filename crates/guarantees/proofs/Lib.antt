@@ -16,3 +16,4 @@ mod Facts
 mod Examples
 mod MergeOrder
 mod LaidLines
+mod MergedLogs
