@@ -4,10 +4,11 @@
 use mathlib.Core.Path.{_≡_, refl, sym, ap, subst, _∙_}
 use mathlib.Core.Bool.{Bool, true, false, cond, not}
 use mathlib.Core.List.{List, [], _∷_, _++_, List·Permᴰ, List·Permᴰ·nil, List·Permᴰ·cons, List·Permᴰ·swap, List·Permᴰ·trans, Sublistᴰ·cons, Sublistᴰ·cons-cons, Sublistᴰ·nil-sublist, Sublistᴰ·refl}
+use mathlib.Core.Logic.{_↔_}
 use Prim.Native.Nat.{ℕ, suc, _-_, _≤_, _<_, _^_}
 use native.Mathlib.Omega.{arith}
 use lib.Dec.{T, ltb}
-use lib.Signed.{ltZ, _≤ℤ_, ltZ-no}
+use lib.Signed.{ltZ, _≤ℤ_, ltZ-yes, ltZ-no, clashℤ}
 use borrow.Author.Tests.{ltb-true, ltb-false, lt-ltb, le-ltb}
 use Rattle.buffers.specs.Same.{same}
 use Rattle.numbers.specs.Twos.{untwos}
@@ -19,7 +20,7 @@ use Rattle.events.specs.Answer.{Answer, event, blank, refused, lineAnswer}
 use Rattle.logs.specs.Events.{EventLine, gathered, gather, eventsIn}
 use Rattle.merging.specs.Time.{rank, timeKey, fallIn}
 use Rattle.merging.specs.Merge.{mergedLines}
-use Rattle.merging.proofs.Falls.{precedes-one, log-ascends, time-small}
+use Rattle.merging.proofs.Falls.{precedes-one, log-ascends, log-no-fall, time-small}
 use Rattle.guarantees.specs.Merging.{timeOf, Rises, Subsequence}
 
 -- ---- ranks and integers
@@ -86,19 +87,41 @@ gathered-small (x ∷ xs) = go (lineAnswer x) refl (gathered-small xs)
     go blank h rest = rest
     go (refused n) h rest = rest
 
+-- of two lines, the later one's key does not come first just where its time is not below
+module _ (l k : EventLine) (small-l : Small l) (small-k : Small k) where
+  keys-order : precedes (timeKey k) (timeKey l) ≡ ltZ (timeOf k) (timeOf l)
+  keys-order = precedes-one _ _ ∙ rank-order (k .event .time) (l .event .time) small-k small-l
+
+  not-above : precedes (timeKey k) (timeKey l) ≡ false → timeOf l ≤ℤ timeOf k
+  not-above e = ltZ-no (subst (λ (t : Bool). T (not t)) (sym e ∙ keys-order) tt)
+
+  not-first : timeOf l ≤ℤ timeOf k → precedes (timeKey k) (timeKey l) ≡ false
+  not-first h = keys-order ∙ go (ltZ (timeOf k) (timeOf l)) refl
+    where
+      go : (t : Bool) → ltZ (timeOf k) (timeOf l) ≡ t → t ≡ false
+      go true e = clashℤ (ltZ-yes {a = timeOf k} {b = timeOf l} (subst T (sym e) tt)) h
+      go false e = refl
+
+each-both : {A : Type 0} (P Q R : A → Type 0) → ((x : A) → P x → Q x → R x) → (xs : List A) → Each P xs → Each Q xs → Each R xs
+unfolding Each
+each-both P Q R f [] g h = tt
+each-both P Q R f (x ∷ xs) g h = (f x (g .0) (h .0), each-both P Q R f xs (g .1) (h .1))
+
 ascends-rises : (ls : List EventLine) → Each Small ls → Ascends timeKey ls → Rises ls
 unfolding Each Ascends Rises
 ascends-rises [] small h = tt
-ascends-rises (l ∷ ls) small h = (go ls (small .1) (h .0), ascends-rises ls (small .1) (h .1))
-  where
-    not-above : (k : EventLine) → Small k → precedes (timeKey k) (timeKey l) ≡ false → timeOf l ≤ℤ timeOf k
-    not-above k s e =
-        let z : false ≡ ltZ (timeOf k) (timeOf l) = sym e ∙ precedes-one _ _ ∙ rank-order _ _ s (small .0) in
-        ltZ-no (subst (λ (t : Bool). T (not t)) z tt)
+ascends-rises (l ∷ ls) small h = (each-both Small _ _ (λ k s. not-above l k (small .0) s) ls (small .1) (h .0), ascends-rises ls (small .1) (h .1))
 
-    go : (ks : List EventLine) → Each Small ks → Each (λ (k : EventLine). precedes (timeKey k) (timeKey l) ≡ false) ks → Each (λ (k : EventLine). timeOf l ≤ℤ timeOf k) ks
-    go [] s e = tt
-    go (k ∷ ks) s e = (not-above k (s .0) (e .0), go ks (s .1) (e .1))
+rises-ascends : (ls : List EventLine) → Each Small ls → Rises ls → Ascends timeKey ls
+unfolding Each Ascends Rises
+rises-ascends [] small h = tt
+rises-ascends (l ∷ ls) small h = (each-both Small _ _ (λ k s. not-first l k (small .0) s) ls (small .1) (h .0), rises-ascends ls (small .1) (h .1))
+
+pub log-rises : (s : List ℕ) → (fallIn s ≡ 0) ↔ Rises (eventsIn s)
+log-rises s = (
+  (λ h. ascends-rises (eventsIn s) (gathered-small _) (log-ascends s h)),
+  (λ h. log-no-fall s (rises-ascends (eventsIn s) (gathered-small _) h)),
+)
 
 pub merged-ascends : (f s : List ℕ) → Ascends timeKey (mergedLines f s)
 unfolding mergedLines
