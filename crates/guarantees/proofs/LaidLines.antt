@@ -1,17 +1,17 @@
 -- Event lines, laid down one after the other, are read as they were: a line that was read is cut at line feeds and trimmed, begins with `@`,
 -- and is read alike once more.
 -- Assumes nothing.
-use mathlib.Core.Path.{_≡_, refl, sym, ap, subst, _∙_}
-use mathlib.Core.Bool.{Bool, true, false, cond, _&&_}
+use mathlib.Core.Path.{_≡_, refl, sym, ap, _∙_}
+use mathlib.Core.Bool.{Bool, true, false, cond}
 use mathlib.Core.List.{List, [], _∷_, _++_, map}
-use Prim.Native.Nat.{ℕ, zero, suc, _+_, _-_, _≤_, _<_, _^_}
+use Prim.Native.Nat.{ℕ, zero, suc, _+_, _-_, _≤_}
 use native.Mathlib.Omega.{arith}
 use lib.Dec.{leb, eqb}
 use lib.ListN.{length, getD, take, drop}
-use borrow.Author.Tests.{le-leb, leb-true, ne-eqb, eqb-true}
+use borrow.Author.Tests.{leb-true, ne-eqb}
 use Rattle.buffers.specs.Ascii.{ascii}
 use Rattle.buffers.proofs.Choice.{by-cond, and-left, and-both}
-use Rattle.format.specs.Limits.{textLimit, lineLimit}
+use Rattle.format.specs.Limits.{lineLimit}
 use Rattle.format.specs.Refusals.{lineTooLong}
 use Rattle.chars.specs.Utf8.{charAt, after, utf8From, utf8, starts}
 use Rattle.chars.specs.White.{white, widthOf, whiteAt, orPast, trimFrom, trimStart, empty, trimEnd, trim}

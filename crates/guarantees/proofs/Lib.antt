@@ -18,3 +18,4 @@ mod LaidLines
 mod MergedLogs
 mod Facts
 mod Examples
+mod MergeExamples

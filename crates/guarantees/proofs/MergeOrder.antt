@@ -12,7 +12,7 @@ use lib.Signed.{ltZ, _≤ℤ_, ltZ-yes, ltZ-no, clashℤ}
 use borrow.Author.Tests.{ltb-true, ltb-false, lt-ltb, le-ltb}
 use Rattle.buffers.specs.Same.{same}
 use Rattle.numbers.specs.Twos.{untwos}
-use Rattle.sorting.specs.Order.{precedes, Each, sortBy, Ascends, ofKey}
+use Rattle.sorting.specs.Order.{precedes, Each, Ascends, ofKey}
 use Rattle.sorting.specs.Merge.{mergeBy}
 use Rattle.sorting.proofs.Sorted.{sort-permutes, sort-ascends, sort-fixed, sort-stable}
 use Rattle.sorting.proofs.MergeLaws.{merge-end, merge-left, merge-right, merge-sorted}

@@ -10,7 +10,7 @@ use lib.Signed.{_≤ℤ_}
 use Rattle.format.specs.Limits.{textLimit}
 use Rattle.numbers.specs.Twos.{untwos}
 use Rattle.sorting.specs.Order.{Each}
-use Rattle.events.specs.Answer.{Answer, event, readLine}
+use Rattle.events.specs.Answer.{event, readLine}
 use Rattle.logs.specs.Judge.{judgeLog}
 use Rattle.logs.specs.Events.{EventLine, eventsIn}
 use Rattle.logs.specs.declared.Judged.the-variants.{Accepted}
