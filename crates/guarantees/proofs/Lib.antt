@@ -14,6 +14,7 @@ mod Standing
 mod EntryReading
 mod Stretched
 mod MergeOrder
+mod FirstFall
 mod LaidLines
 mod MergedLogs
 mod Facts

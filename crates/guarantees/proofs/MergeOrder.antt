@@ -18,9 +18,9 @@ use Rattle.sorting.proofs.Sorted.{sort-permutes, sort-ascends, sort-fixed, sort
 use Rattle.sorting.proofs.MergeLaws.{merge-end, merge-left, merge-right, merge-sorted}
 use Rattle.events.specs.Answer.{Answer, event, blank, refused, lineAnswer}
 use Rattle.logs.specs.Events.{EventLine, gathered, gather, eventsIn}
-use Rattle.merging.specs.Time.{rank, timeKey, fallIn}
+use Rattle.merging.specs.Time.{rank, timeKey, fallFrom, fallIn}
 use Rattle.merging.specs.Merge.{mergedLines}
-use Rattle.merging.proofs.Falls.{precedes-one, log-ascends, log-no-fall, time-small}
+use Rattle.merging.proofs.Falls.{precedes-one, no-fall-ascends, ascends-no-fall, none-below, log-ascends, time-small}
 use Rattle.guarantees.specs.Merging.{timeOf, Rises, Subsequence}
 
 -- ---- ranks and integers
@@ -117,10 +117,11 @@ unfolding Each Ascends Rises
 rises-ascends [] small h = tt
 rises-ascends (l ∷ ls) small h = (each-both Small _ _ (λ k s. not-first l k (small .0) s) ls (small .1) (h .0), rises-ascends ls (small .1) (h .1))
 
-pub log-rises : (s : List ℕ) → (fallIn s ≡ 0) ↔ Rises (eventsIn s)
-log-rises s = (
-  (λ h. ascends-rises (eventsIn s) (gathered-small _) (log-ascends s h)),
-  (λ h. log-no-fall s (rises-ascends (eventsIn s) (gathered-small _) h)),
+-- of lines that are read one after the other, no time falls just where they rise
+pub lines-rise : (xs : List (List ℕ)) → (fallFrom 1 0 xs ≡ 0) ↔ Rises (gather lineAnswer xs)
+lines-rise xs = (
+  (λ h. ascends-rises (gather lineAnswer xs) (gathered-small xs) (no-fall-ascends 1 0 xs (omega arith) h .1)),
+  (λ h. ascends-no-fall 1 0 xs (none-below (gather lineAnswer xs), rises-ascends (gather lineAnswer xs) (gathered-small xs) h)),
 )
 
 pub merged-ascends : (f s : List ℕ) → Ascends timeKey (mergedLines f s)

@@ -3,19 +3,22 @@
 use mathlib.Core.Path.{_≡_}
 use mathlib.Core.List.{List, _++_, List·Permᴰ}
 use mathlib.Core.Logic.{_↔_}
-use Prim.Native.Nat.{ℕ, _+_, _≤_, _<_, _^_}
+use Prim.Native.Nat.{ℕ, suc, _+_, _≤_, _<_, _^_}
 use lib.Dec.{ltb}
-use lib.ListN.{length}
+use lib.ListN.{length, take}
 use lib.Signed.{ltZ}
 use Rattle.numbers.specs.Twos.{untwos}
 use Rattle.sorting.specs.Order.{ofKey}
 use Rattle.sorting.proofs.Sorted.{sort-permutes}
-use Rattle.logs.specs.Events.{eventsIn}
+use Rattle.events.specs.Answer.{lineAnswer}
+use Rattle.logs.specs.Events.{gather, eventsIn}
 use Rattle.merging.specs.Time.{rank, timeKey, fallIn}
 use Rattle.merging.specs.Merge.{mergedLines, mergedText, mergeLogs}
 use Rattle.merging.specs.declared.Merged.the-variants.{Written}
+use Rattle.guarantees.specs.Lines.{logLines}
 use Rattle.guarantees.specs.Merging.{Mergeable, Rises, Subsequence, ReadsAs, Stays}
-use Rattle.guarantees.proofs.MergeOrder.{rank-order, log-rises, merged-rises, merged-stable, merged-keeps}
+use Rattle.guarantees.proofs.MergeOrder.{rank-order, lines-rise, merged-rises, merged-stable, merged-keeps}
+use Rattle.guarantees.proofs.FirstFall.{first-fall}
 use Rattle.guarantees.proofs.MergedLogs.{mergeable-written, written-mergeable, merged-reads, merged-stays}
 
 -- 1. Two logs are merged where neither is refused, the times of neither fall, and the result is short enough for a log and for the output:
@@ -37,9 +40,14 @@ once-each f s = sort-permutes timeKey (eventsIn f ++ eventsIn s)
 pub key-order : (a b : ℕ) → a < 2 ^ 64 → b < 2 ^ 64 → ltb (rank a) (rank b) ≡ ltZ (untwos a) (untwos b)
 key-order = rank-order
 
--- so a log's times fall nowhere just where they rise as integers,
+-- so a log's times fall nowhere just where they rise as integers;
 pub no-fall-iff : (s : List ℕ) → (fallIn s ≡ 0) ↔ Rises (eventsIn s)
-no-fall-iff = log-rises
+no-fall-iff s = lines-rise (logLines s)
+
+-- where they fall, the line that is named is the first with which they do not rise;
+pub falls-at : (s : List ℕ) (k : ℕ) → fallIn s ≡ suc k
+    → Rises (gather lineAnswer (take k (logLines s))) × (Rises (gather lineAnswer (take (suc k) (logLines s))) → ⊥)
+falls-at = first-fall
 
 -- and those of the result rise, whatever the logs are.
 pub times-rise : (f s : List ℕ) → Rises (mergedLines f s)

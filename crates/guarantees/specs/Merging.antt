@@ -19,7 +19,7 @@ use Rattle.merging.specs.Merge.{texts, mergedText, mergeLogs}
 use Rattle.merging.specs.declared.Merged.the-variants.{Written}
 use Rattle.guarantees.specs.Lines.{logLines}
 
--- both logs are accepted, with m and n events, the times of neither fall, and the result is not too long a text
+-- both logs are accepted, with m and n events, the times of neither fall, and the result is no longer than a log may be
 pub record Mergeable (first second : List ℕ) (m n : ℕ) : Type 0 where
   pub first-accepted : judgeLog first ≡ Accepted m
   pub second-accepted : judgeLog second ≡ Accepted n
@@ -36,7 +36,7 @@ unfoldable pub Rises : List EventLine → Type 0
 Rises [] = Unit
 Rises (l ∷ ls) = Each (λ (later : EventLine). timeOf l ≤ℤ timeOf later) ls × Rises ls
 
--- xs is ys without some of its elements
+-- xs is ys with some of its elements left out, or none
 abbrev pub Subsequence : {A : Type 0} → List A → List A → Type 0
 Subsequence xs ys = Sublistᴰ xs ys
 
