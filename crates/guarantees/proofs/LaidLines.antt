@@ -1,25 +1,23 @@
 -- Event lines, laid down one after the other, are read as they were: a line that was read is cut at line feeds and trimmed, begins with `@`,
 -- and is read alike once more.
 -- Assumes nothing.
-use mathlib.Core.Path.{_≡_, refl, sym, ap, _∙_}
+use mathlib.Core.Path.{_≡_, refl, ap, _∙_}
 use mathlib.Core.Bool.{Bool, true, false, cond}
 use mathlib.Core.List.{List, [], _∷_, _++_, map}
-use Prim.Native.Nat.{ℕ, zero, suc, _+_, _-_, _≤_}
+use Prim.Native.Nat.{ℕ, suc, _+_, _≤_}
 use native.Mathlib.Omega.{arith}
-use lib.Dec.{leb, eqb}
-use lib.ListN.{length, getD, take, drop}
+use lib.Dec.{leb}
+use lib.ListN.{length, getD}
 use borrow.Author.Tests.{leb-true, ne-eqb}
 use Rattle.buffers.specs.Ascii.{ascii}
-use Rattle.buffers.proofs.Choice.{by-cond, and-left, and-both}
+use Rattle.buffers.proofs.Choice.{and-both}
 use Rattle.format.specs.Limits.{lineLimit}
 use Rattle.format.specs.Refusals.{lineTooLong}
-use Rattle.chars.specs.Utf8.{charAt, after, utf8From, utf8, starts}
-use Rattle.chars.specs.White.{white, widthOf, whiteAt, orPast, trimFrom, trimStart, empty, trimEnd, trim}
-use Rattle.chars.specs.declared.Step.{Step}
-use Rattle.chars.specs.declared.Step.the-variants.{Char, Bad}
+use Rattle.chars.specs.Utf8.{utf8From, utf8}
+use Rattle.chars.specs.White.{empty, trim}
 use Rattle.chars.proofs.Reading.{char-onward, ascii-char}
 use Rattle.chars.proofs.Boundary.{starts-low, utf8-append}
-use Rattle.chars.proofs.Trimming.{white-starts, trim-start-stays, trim-end-split, trim-idempotent, trim-part}
+use Rattle.chars.proofs.Trimming.{trim-idempotent}
 use Rattle.cuts.specs.Split.{onto}
 use Rattle.sorting.specs.Order.{Each}
 use Rattle.events.specs.Event.{Event}
@@ -32,74 +30,7 @@ use Rattle.merging.specs.Merge.{laid, texts}
 use Rattle.merging.proofs.Falls.{time-read, parsed-time}
 use Rattle.guarantees.specs.Lines.{Within, logLines}
 use Rattle.guarantees.proofs.LineTexts.{line-within, read-within}
-
--- ---- a text that is UTF-8 is so when it is trimmed
-
-utf8-trim-from : (k : ℕ) (s : List ℕ) → utf8From k s ≡ true → utf8 (trimFrom k s) ≡ true
-unfolding utf8From trimFrom whiteAt
-utf8-trim-from k [] h = refl
-utf8-trim-from (suc k) (a ∷ r) h = utf8-trim-from k r h
-utf8-trim-from zero (a ∷ r) h = go (charAt (a ∷ r)) h (λ k. utf8-trim-from k r)
-  where
-    go : (t : Step) → after t (λ k. utf8From k r) ≡ true → ((k : ℕ) → utf8From k r ≡ true → utf8 (trimFrom k r) ≡ true)
-        → utf8 (orPast (widthOf t) (a ∷ r) (λ n. trimFrom n r)) ≡ true
-    go (Char c zero) e ih = by-cond (λ (w : ℕ). utf8 (orPast w (a ∷ r) (λ n. trimFrom n r)) ≡ true) (white c) 0 0 (λ _. h) (λ _. h)
-    go (Char c (suc n)) e ih = by-cond (λ (w : ℕ). utf8 (orPast w (a ∷ r) (λ n. trimFrom n r)) ≡ true) (white c) (suc n) 0 (λ _. ih n (let z : suc n - 1 ≡ n = omega arith in rw z at e)) (λ _. h)
-    go Bad e ih = h
-
--- what is taken off the end begins a character
-blank-starts : (w : List ℕ) → trimStart w ≡ [] → starts (getD w 0 0) ≡ true
-blank-starts [] e = starts-low 0 (omega arith)
-blank-starts (a ∷ r) e = go (whiteAt (a ∷ r)) refl
-  where
-    go : (n : ℕ) → whiteAt (a ∷ r) ≡ n → starts a ≡ true
-    go zero z = let y : _≡_ {A = ℕ} 1 0 = ap (λ (l : List ℕ). length (take 1 l)) (sym (trim-start-stays (a ∷ r) z) ∙ e) in absurd (omega arith)
-    go (suc n) z = white-starts (a ∷ r) (omega arith)
-
-utf8-trim-end : (s : List ℕ) → utf8 s ≡ true → utf8 (trimEnd s) ≡ true
-utf8-trim-end s h =
-    let o = trim-end-split s in
-    and-left (utf8 (trimEnd s)) (utf8 (o .0)) (sym (utf8-append (trimEnd s) (o .0) (blank-starts (o .0) (o .2))) ∙ ap utf8 (sym (o .1)) ∙ h)
-
-utf8-trim : (s : List ℕ) → utf8 s ≡ true → utf8 (trim s) ≡ true
-utf8-trim s h = utf8-trim-end (trimStart s) (utf8-trim-from 0 s h)
-
--- ---- a line has no line feed, nor has a part of it
-
-abbrev Feedless : List ℕ → Type 0
-Feedless x = Each (λ (b : ℕ). eqb b 10 ≡ false) x
-
-lines-feedless : (s : List ℕ) → Each Feedless (linesOf s)
-unfolding linesOf Each onto
-lines-feedless [] = tt
-lines-feedless (a ∷ r) = by-cond (Each Feedless) (eqb a 10) ([] ∷ linesOf r) (onto a (linesOf r))
-    (λ _. (tt, lines-feedless r))
-    (λ e. go e (linesOf r) (lines-feedless r))
-  where
-    go : eqb a 10 ≡ false → (xs : List (List ℕ)) → Each Feedless xs → Each Feedless (onto a xs)
-    go e [] h = ((e, tt), tt)
-    go e (x ∷ xs) h = ((e, h .0), h .1)
-
-module _ {A : Type 0} (P : A → Type 0) where
-  each-take : (n : ℕ) (xs : List A) → Each P xs → Each P (take n xs)
-  unfolding Each
-  each-take zero xs h = tt
-  each-take (suc n) [] h = tt
-  each-take (suc n) (x ∷ xs) h = (h .0, each-take n xs (h .1))
-
-  each-drop : (n : ℕ) (xs : List A) → Each P xs → Each P (drop n xs)
-  unfolding Each
-  each-drop zero xs h = h
-  each-drop (suc n) [] h = tt
-  each-drop (suc n) (x ∷ xs) h = each-drop n xs (h .1)
-
-  each-at : (d : A) (xs : List A) → ((i : ℕ) → P (getD xs i d)) → Each P xs
-  unfolding Each
-  each-at d [] h = tt
-  each-at d (x ∷ xs) h = (h 0, each-at d xs (λ i. h (suc i)))
-
-trim-feedless : (x : List ℕ) → Feedless x → Feedless (trim x)
-trim-feedless x h = rw (trim-part x) (each-take _ (length (trim x)) (drop (length x - length (trimStart x)) x) (each-drop _ (length x - length (trimStart x)) x h))
+use Rattle.guarantees.proofs.TrimmedTexts.{Feedless, utf8-trim, lines-feedless, trim-feedless}
 
 -- ---- what is known of an event line of a log within the limits
 
@@ -146,6 +77,11 @@ gathered-sound (x ∷ xs) f u = go (lineAnswer x) refl (gathered-sound xs (f .1)
     go (event e) h rest = (sound x e (f .0) (u .0) h, rest)
     go blank h rest = rest
     go (refused n) h rest = rest
+
+each-at : {A : Type 0} (P : A → Type 0) (d : A) (xs : List A) → ((i : ℕ) → P (getD xs i d)) → Each P xs
+unfolding Each
+each-at P d [] h = tt
+each-at P d (x ∷ xs) h = (h 0, each-at P d xs (λ i. h (suc i)))
 
 pub log-sound : (s : List ℕ) → Within s → Each Sound (eventsIn s)
 log-sound s w = gathered-sound (logLines s) (lines-feedless (unmarked s)) (each-at (λ (x : List ℕ). utf8 x ≡ true) [] (logLines s) (λ i. line-within s w i .encoded))

@@ -15,6 +15,7 @@ mod EntryReading
 mod Stretched
 mod MergeOrder
 mod FirstFall
+mod TrimmedTexts
 mod LaidLines
 mod MergedLogs
 mod Facts
