@@ -731,7 +731,8 @@ fn main() {
     match words.iter().map(String::as_str).collect::<Vec<_>>()[..] {
         ["kinds"] => logs::names(),
         ["once", kind, side] => logs::once(kind, side),
-        ["merge once", kind, side] => merges::once(kind, side),
+        ["merged kinds"] => merges::names(),
+        ["merged once", kind, side] => merges::once(kind, side),
         _ => tables(words.first().map_or("", String::as_str)),
     }
 }

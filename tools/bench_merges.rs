@@ -4,7 +4,8 @@
 
 use crate::logs::{KINDS, ROUNDS, TURN, log_of, median, time};
 use crate::{Tables, ours};
-use oracle::{merge, parse_trace};
+use oracle::merge::{self, EventLine};
+use oracle::parse_trace;
 use std::hint::black_box;
 
 /// The kinds of logs, and how many bytes both have together.
@@ -52,14 +53,17 @@ impl Pair {
     }
 }
 
-/// What the Rust read is dropped here. Not inlined, so that callgrind sees it.
+/// The lines of a log with the times that the Rust read, which is dropped here.
+fn read_lines(log: &str) -> Vec<EventLine<'_>> {
+    let trace = parse_trace(black_box(log)).expect("an accepted log");
+    merge::event_lines(log, trace.points.iter().map(|event| event.ts))
+}
+
+/// Not inlined, so that callgrind sees it, as the next one.
 #[inline(never)]
 fn rust_merge(pair: &Pair) -> u64 {
-    let lines = |log| {
-        let trace = parse_trace(black_box(log)).expect("an accepted log");
-        merge::event_lines(log, trace.points.iter().map(|event| event.ts))
-    };
-    let merged = merge::merged(lines(&pair.first), lines(&pair.second), 65_536);
+    let (first, second) = (read_lines(&pair.first), read_lines(&pair.second));
+    let merged = merge::merged(first, second, 65_536);
     black_box(merged).expect("logs that merge").len() as u64
 }
 
@@ -84,7 +88,8 @@ fn our_merge(tables: &mut Tables, out: &mut [u8], pair: &Pair) -> u64 {
     )
 }
 
-fn row(name: &str, pair: &Pair) {
+/// The times of both sides and of judging, turn by turn. Both sides must write the same.
+fn turns(name: &str, pair: &Pair) -> Vec<[f64; 3]> {
     let mut tables = Tables::new();
     let mut out = vec![0u8; 65_536];
     let count = our_merge(&mut tables, &mut out, pair);
@@ -103,7 +108,7 @@ fn row(name: &str, pair: &Pair) {
         runs(&mut || rust_merge(pair)),
         runs(&mut || our_merge(&mut tables, &mut out, pair)),
     );
-    let turns: Vec<[f64; 3]> = (0..ROUNDS)
+    (0..ROUNDS)
         .map(|_| {
             [
                 time(few, &mut || rust_merge(pair)),
@@ -111,14 +116,18 @@ fn row(name: &str, pair: &Pair) {
                 time(many, &mut || our_merge(&mut tables, &mut out, pair)),
             ]
         })
-        .collect();
-    let line =
-        |side: usize| median(turns.iter().map(|turn| turn[side]).collect()) / pair.lines as f64;
+        .collect()
+}
+
+fn row(name: &str, pair: &Pair) {
+    let turns = turns(name, pair);
+    let run = |side: usize| median(turns.iter().map(|turn| turn[side]).collect());
+    let line = |side: usize| run(side) / pair.lines as f64;
     let ratio = |over: usize, under: usize| {
         median(turns.iter().map(|turn| turn[over] / turn[under]).collect())
     };
     println!(
-        "| {name} | {} | {} | {:.0} | {:.0} | {:.0} | {:.2} | {:.2} | {:.3} |",
+        "| {name} | {} | {} | {:.1} | {:.1} | {:.1} | {:.2} | {:.2} | {:.2} |",
         pair.lines,
         pair.bytes(),
         line(0),
@@ -126,7 +135,7 @@ fn row(name: &str, pair: &Pair) {
         line(2),
         ratio(2, 1),
         ratio(0, 2),
-        line(2) * pair.lines as f64 / pair.bytes() as f64,
+        run(2) / pair.bytes() as f64,
     );
 }
 
@@ -143,6 +152,11 @@ pub fn rows(word: &str) {
             }
         }
     }
+}
+
+/// The names of the kinds, for `tools/bench instructions`.
+pub fn names() {
+    MERGED.iter().for_each(|(name, _)| println!("{name}"));
 }
 
 /// Calls one side on one pair of logs, for callgrind. Prints how many lines they have.
