@@ -2,7 +2,7 @@
 
 use crate::pack::Pack;
 use crate::value::entity_uid_string;
-use crate::{hex, limits, listing, ranges, reader, scans};
+use crate::{hex, limits, listing, merge, ranges, reader, scans};
 
 fn refused(number: u8) -> String {
     format!("refused {number}\n")
@@ -22,6 +22,11 @@ pub fn night_listing(log: &[u8]) -> String {
     };
     let listed = events.iter().zip(1..).map(|((_, event), n)| listing::event(n, event));
     listed.collect::<String>() + &format!("events {}\n", events.len())
+}
+
+pub fn merge(first: &[u8], second: &[u8]) -> String {
+    merge::logs(first, second, limits::TEXT)
+        .unwrap_or_else(|(number, log, line)| format!("refused {number} log {log} line {line}\n"))
 }
 
 pub fn line(text: &[u8], number: u64) -> String {

@@ -13,6 +13,7 @@ pub mod facts;
 pub mod hex;
 pub mod limits;
 pub mod listing;
+pub mod merge;
 pub mod order;
 pub mod pack;
 pub mod ranges;

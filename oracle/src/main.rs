@@ -2,6 +2,8 @@
 //!
 //!     oracle listing            a log's night listing, or `refused N line L`
 //!     oracle judge              `events N`, or `refused N line L`
+//!     oracle merge SECOND       the log merged with another, which is given in hex, or
+//!                               `refused N log G line L`
 //!     oracle line NUMBER        one line's listing as event NUMBER; nothing for a blank line
 //!     oracle pack               one line's pack (counts, `kind number` of each node, texts in
 //!                               hex), or `blank`
@@ -24,7 +26,7 @@ use std::process::exit;
 
 fn usage() -> ! {
     eprintln!(
-        "usage: oracle listing|judge|line NUMBER|pack|value|decode|cuts|key TYPE ID|trim|utf8|ranges|selftest|batch"
+        "usage: oracle listing|judge|merge SECOND|line NUMBER|pack|value|decode|cuts|key TYPE ID|trim|utf8|ranges|selftest|batch"
     );
     exit(2);
 }
@@ -34,6 +36,7 @@ fn answer(command: &str, input: &[u8], argument: Option<&str>) -> Option<String>
     let answer = match command {
         "listing" => answers::night_listing(input),
         "judge" => answers::judge(input),
+        "merge" => answers::merge(input, &hex::read(argument?)?),
         "line" => answers::line(input, argument?.parse().ok()?),
         "pack" => answers::pack(input),
         "value" => answers::value(input),
