@@ -29,7 +29,7 @@ judged-stopped (behind m) x line e = let z : _≡_ {A = ℕ} 0 1 = cc in absurd 
 judged-stopped (stopped y at) x line e = let a : y ≡ x = cc in let b : at ≡ line = cc in rw (a, b)
 
 -- a log that is accepted is within the limits
-accepted-within : (s : List ℕ) (n : ℕ) → judgeLog s ≡ Accepted n → Within s
+pub accepted-within : (s : List ℕ) (n : ℕ) → judgeLog s ≡ Accepted n → Within s
 unfolding judgeLog
 accepted-within s n e = go (leb (length s) textLimit) (utf8 s) refl refl e
   where
@@ -43,13 +43,16 @@ module _ (s : List ℕ) (w : Within s) where
   walked : judgedBy (walk countLine 0 s) ≡ judgeLog s
   walked = within-limits s (judgedBy (walk countLine 0 s)) _ (le-leb (length s) textLimit (w .short)) (w .encoded) refl refl
 
+  pub log-walked : (n : ℕ) → (judgeLog s ≡ Accepted n) ↔ (walk countLine 0 s ≡ behind n)
+  log-walked n = ((λ e. judged-behind (walk countLine 0 s) n (walked ∙ e)), (λ e. sym walked ∙ ap judgedBy e))
+
   log-ended : Ended 1 0 (logLines s) (walk countLine 0 s)
   log-ended = ended 1 0 (logLines s) (λ i. read-within (getD (logLines s) i []) (line-within s w i))
 
   pub log-passed : (n : ℕ) → (judgeLog s ≡ Accepted n) ↔ (EachReadOrBlank (logLines s) × (n ≡ eventsIn (logLines s)))
   log-passed n =
       let i = behind-iff (logLines s) (walk countLine 0 s) n log-ended in
-      ((λ e. i .0 (judged-behind (walk countLine 0 s) n (walked ∙ e))), (λ o. sym walked ∙ ap judgedBy (i .1 o)))
+      ((λ e. i .0 (log-walked n .0 e)), (λ o. log-walked n .1 (i .1 o)))
 
   pub log-stopped : (x line : ℕ) → (judgeLog s ≡ Refused x line) ↔ FirstRefused (logLines s) line x
   log-stopped x line =

@@ -2,6 +2,7 @@ pub mod EntryPoints
 pub mod Agreement
 pub mod PackKeys
 pub mod NightListing
+pub mod Merging
 pub mod ProofSet
 pub mod StoredKeys
 mod LineTexts
@@ -12,5 +13,11 @@ mod Laying
 mod Standing
 mod EntryReading
 mod Stretched
+mod MergeOrder
+mod FirstFall
+mod TrimmedTexts
+mod LaidLines
+mod MergedLogs
 mod Facts
 mod Examples
+mod MergeExamples

@@ -4,3 +4,4 @@ pub mod Calls
 pub mod ProofSet
 pub mod Promised
 pub mod Stretches
+pub mod Merging

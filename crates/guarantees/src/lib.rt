@@ -1,1 +1,2 @@
-// What is guaranteed of the whole product, as theorems. No code. Read proofs/ in this order: EntryPoints, Agreement, PackKeys, ProofSet.
+// What is guaranteed of the whole product, as theorems. No code. Read proofs/ in this order: EntryPoints, Agreement, PackKeys, Merging,
+// ProofSet.

@@ -1,0 +1,159 @@
+-- What merging answers; and the merged log as a log of its own: it is read as the lines that were merged, and stays when it is merged again.
+-- Assumes nothing.
+use mathlib.Core.Path.{_≡_, refl, sym, ap, _∙_}
+use mathlib.Core.Bool.{Bool, true, false, cond}
+use mathlib.Core.List.{List, [], _++_, append-nil}
+use Prim.Native.Nat.{ℕ, zero, suc, _+_, _≤_}
+use native.Mathlib.Omega.{arith}
+use lib.Dec.{leb}
+use lib.ListN.{length, length-append}
+use borrow.Author.Tests.{leb-true, le-leb}
+use Rattle.format.specs.Limits.{textLimit}
+use Rattle.format.specs.Refusals.{outputTooShort, timesFallInFirst, timesFallInSecond, mergedTooLong}
+use Rattle.chars.specs.Utf8.{utf8From}
+use Rattle.sorting.specs.Order.{Each, Ascends}
+use Rattle.sorting.proofs.Sorted.{sort-length, sort-fixed}
+use Rattle.logs.specs.Lines.{linesOf, marked, unmarked, walkFrom, walk, behind}
+use Rattle.logs.specs.Judge.{countLine, judgeLog}
+use Rattle.logs.specs.Events.{EventLine, gather, eventsIn}
+use Rattle.logs.specs.declared.Judged.{Judged}
+use Rattle.logs.specs.declared.Judged.the-variants as Judged
+use Rattle.merging.specs.Time.{timeKey, fallFrom, fallIn}
+use Rattle.merging.specs.Merge.{mergedLines, laid, texts, mergedText, unlessRefused, unlessFalls, mergeLogs}
+use Rattle.merging.specs.declared.Merged.the-variants.{Written, Refused}
+use Rattle.merging.proofs.Falls.{log-no-fall}
+use Rattle.guarantees.specs.Lines.{Within, logLines}
+use Rattle.guarantees.specs.Merging.{Mergeable, ReadsAs, Stays}
+use Rattle.guarantees.proofs.Judged.{accepted-within, log-walked}
+use Rattle.guarantees.proofs.MergeOrder.{each-merged, merged-ascends}
+use Rattle.guarantees.proofs.LaidLines.{Sound, log-sound, laid-encoded, laid-lines, laid-answers, laid-events, walk-counts, walk-counted}
+
+-- ---- the answer
+
+module _ (f s : List ℕ) (room : ℕ) where
+  pub mergeable-written : {m n : ℕ} → Mergeable f s m n → length (mergedText f s) ≤ room → mergeLogs f s room ≡ Written (length (mergedText f s))
+  unfolding mergeLogs
+  mergeable-written h fits =
+      rw (h .first-accepted, h .second-accepted, h .first-rises, h .second-rises, le-leb (length (mergedText f s)) textLimit (h .short), le-leb (length (mergedText f s)) room fits)
+
+  abbrev Means : ℕ → Type 0
+  Means k = (m : ℕ) × (n : ℕ) × Mergeable f s m n × (k ≡ length (mergedText f s)) × (k ≤ room)
+
+  pub written-mergeable : (k : ℕ) → mergeLogs f s room ≡ Written k → Means k
+  unfolding mergeLogs
+  written-mergeable k h =
+      go (judgeLog f) (judgeLog s) refl refl (fallIn f) (fallIn s) refl refl (leb (length (mergedText f s)) textLimit) (leb (length (mergedText f s)) room) refl refl h
+    where
+      go : (a b : Judged) → judgeLog f ≡ a → judgeLog s ≡ b → (x y : ℕ) → fallIn f ≡ x → fallIn s ≡ y
+          → (p q : Bool) → leb (length (mergedText f s)) textLimit ≡ p → leb (length (mergedText f s)) room ≡ q
+          → unlessRefused 1 a (unlessRefused 2 b (unlessFalls timesFallInFirst 1 x (unlessFalls timesFallInSecond 2 y
+          (cond p (cond q (Written (length (mergedText f s))) (Refused outputTooShort 0 0)) (Refused mergedTooLong 0 0))))) ≡ Written k
+          → Means k
+      go (Judged.Accepted m) (Judged.Accepted n) a b zero zero x y true true p q h =
+          let e : length (mergedText f s) ≡ k = cc in
+          (m, n, record { first-accepted = a; second-accepted = b; first-rises = x; second-rises = y; short = leb-true _ _ p }, sym e, omega (arith, leb-true (length (mergedText f s)) room q))
+      go (Judged.Accepted m) (Judged.Accepted n) a b zero zero x y true false p q h = let z : _≡_ {A = ℕ} 0 1 = cc in absurd (omega arith)
+      go (Judged.Accepted m) (Judged.Accepted n) a b zero zero x y false q p r h = let z : _≡_ {A = ℕ} 0 1 = cc in absurd (omega arith)
+      go (Judged.Accepted m) (Judged.Accepted n) a b zero (suc l) x y p q r t h = let z : _≡_ {A = ℕ} 0 1 = cc in absurd (omega arith)
+      go (Judged.Accepted m) (Judged.Accepted n) a b (suc l) v x y p q r t h = let z : _≡_ {A = ℕ} 0 1 = cc in absurd (omega arith)
+      go (Judged.Accepted m) (Judged.Refused e l) a b u v x y p q r t h = let z : _≡_ {A = ℕ} 0 1 = cc in absurd (omega arith)
+      go (Judged.Refused e l) c a b u v x y p q r t h = let z : _≡_ {A = ℕ} 0 1 = cc in absurd (omega arith)
+
+-- ---- the merged log, read
+
+-- a log's count is how many lines it gathers
+events-counted : (s : List ℕ) (n : ℕ) → judgeLog s ≡ Judged.Accepted n → n ≡ length (eventsIn s)
+events-counted s n e = omega (arith, walk-counted 1 0 n (logLines s) (log-walked s (accepted-within s n e) n .0 e))
+
+module _ {f s : List ℕ} {m n : ℕ} (h : Mergeable f s m n) where
+  sound : Each Sound (mergedLines f s)
+  sound = each-merged Sound f s (log-sound f (accepted-within f m (h .first-accepted))) (log-sound s (accepted-within s n (h .second-accepted)))
+
+  count : length (mergedLines f s) ≡ m + n
+  unfolding mergedLines
+  count = omega (
+    arith,
+    sort-length timeKey (eventsIn f ++ eventsIn s),
+    length-append (eventsIn f) (eventsIn s),
+    events-counted f m (h .first-accepted),
+    events-counted s n (h .second-accepted),
+  )
+
+  lines : logLines (mergedText f s) ≡ texts (mergedLines f s)
+  unfolding mergedText
+  lines = laid-lines (mergedLines f s) sound
+
+  within : Within (mergedText f s)
+  unfolding mergedText
+  within = record { short = h .short; encoded = laid-encoded (mergedLines f s) sound }
+
+  walked : walk countLine 0 (mergedText f s) ≡ behind (m + n)
+  walked = ap (walkFrom countLine 1 0) lines ∙ walk-counts 1 0 (mergedLines f s) sound ∙ ap behind (let c = count in omega arith)
+
+  pub merged-reads : ReadsAs (mergedText f s) (mergedLines f s) (m + n)
+  unfolding mergedText
+  merged-reads = record {
+    lines = lines;
+    answers = rw lines (laid-answers (mergedLines f s) sound);
+    events = laid-events (mergedLines f s) sound;
+    judged = log-walked (mergedText f s) within (m + n) .1 walked;
+  }
+
+-- ---- and merged again
+
+no-events : eventsIn [] ≡ []
+unfolding gather linesOf unmarked marked
+no-events = refl
+
+empty-accepted : judgeLog [] ≡ Judged.Accepted 0
+unfolding judgeLog utf8From walkFrom linesOf unmarked marked
+empty-accepted = refl
+
+empty-rises : fallIn [] ≡ 0
+unfolding fallFrom linesOf unmarked marked
+empty-rises = refl
+
+-- a log that ascends and is its own event lines, laid down
+module _ (t : List ℕ) (n : ℕ) (accepted : judgeLog t ≡ Judged.Accepted n) (ascends : Ascends timeKey (eventsIn t)) (own : laid (texts (eventsIn t)) ≡ t) where
+  rises : fallIn t ≡ 0
+  rises = log-no-fall t ascends
+
+  with-empty : mergedText t [] ≡ t
+  unfolding mergedText mergedLines
+  with-empty = rw (no-events, append-nil (eventsIn t), sort-fixed timeKey (eventsIn t) ascends) own
+
+  empty-with : mergedText [] t ≡ t
+  unfolding mergedText mergedLines
+  empty-with = rw (no-events, sort-fixed timeKey (eventsIn t) ascends) own
+
+  short : length t ≤ textLimit
+  short = accepted-within t n accepted .short
+
+  pub own-stays : Stays t
+  own-stays = record {
+    rises = rises;
+    with-empty = with-empty;
+    empty-with = empty-with;
+    written = λ room fits.
+        rw with-empty at (mergeable-written t [] room (record {
+          first-accepted = accepted;
+          second-accepted = empty-accepted;
+          first-rises = rises;
+          second-rises = empty-rises;
+          short = rw with-empty short;
+        }) (rw with-empty fits));
+    written-second = λ room fits.
+        rw empty-with at (mergeable-written [] t room (record {
+          first-accepted = empty-accepted;
+          second-accepted = accepted;
+          first-rises = empty-rises;
+          second-rises = rises;
+          short = rw empty-with short;
+        }) (rw empty-with fits));
+  }
+
+pub merged-stays : {f s : List ℕ} {m n : ℕ} → Mergeable f s m n → Stays (mergedText f s)
+unfolding mergedText
+merged-stays {f} {s} {m} {n} h =
+    let r = merged-reads h in
+    own-stays (mergedText f s) (m + n) (r .judged) (rw (r .events) (merged-ascends f s)) (ap (λ (ls : List EventLine). laid (texts ls)) (r .events))
