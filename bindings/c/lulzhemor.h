@@ -23,7 +23,7 @@ extern "C" {
 
 /* ---- Bounds ---- */
 
-/* A log or any other text, in bytes: refusal 2 above this. */
+/* A log or any other text, in bytes: refusal 2 above this, and 47 for a merged log. An output of so many bytes is never too short for one. */
 #define LULZHEMOR_TEXT_LIMIT 65536
 /* A trimmed line, a body, an id or a type, in bytes: refusal 4 above this. */
 #define LULZHEMOR_LINE_LIMIT 4096
@@ -35,8 +35,9 @@ extern "C" {
 #define LULZHEMOR_LISTING_ROOM 245867
 
 /* ---- Answers ----
- * One number each. A success is below LULZHEMOR_REFUSED, a refusal is LULZHEMOR_REFUSED and its number, and from lulzhemor_judge 256 times
- * its line more; lines count from 1, and line 0 is the whole text. */
+ * One number each. A success is below LULZHEMOR_REFUSED, a refusal is LULZHEMOR_REFUSED and its number, from lulzhemor_judge and
+ * lulzhemor_merge 256 times its line more, and from lulzhemor_merge 2^26 times its log more. Lines count from 1, and line 0 is the whole
+ * text. Log 1 is the first, 2 the second, and 0 neither: the refusal speaks of the tables or of the merged log. */
 
 #define LULZHEMOR_REFUSED (UINT64_C(1) << 32)
 
@@ -45,8 +46,11 @@ static inline bool lulzhemor_refused(uint64_t answer) { return answer >= LULZHEM
 /* A refusal's number, one of enum lulzhemor_refusal. */
 static inline unsigned lulzhemor_refusal(uint64_t answer) { return (unsigned)(answer & 255); }
 
-/* The line of a refusal of lulzhemor_judge. */
-static inline uint32_t lulzhemor_refusal_line(uint64_t answer) { return (uint32_t)((answer - LULZHEMOR_REFUSED) >> 8); }
+/* The line of a refusal of lulzhemor_judge or lulzhemor_merge. */
+static inline uint32_t lulzhemor_refusal_line(uint64_t answer) { return (uint32_t)(answer >> 8) & 0x3FFFF; }
+
+/* The log of a refusal of lulzhemor_merge. */
+static inline unsigned lulzhemor_refusal_log(uint64_t answer) { return (unsigned)(answer >> 26) & 3; }
 
 /* The sizes of the pack that lulzhemor_read_line left: nodes, and text bytes. */
 static inline uint32_t lulzhemor_pack_nodes(uint64_t answer) { return (uint32_t)(answer & 65535); }
@@ -84,7 +88,10 @@ enum lulzhemor_refusal {
     LULZHEMOR_PARENT_NO_ENTITY = 32,
     LULZHEMOR_KEY_NO_ENTITY = 33,
     LULZHEMOR_DUPLICATE_KEY = 34,
-    LULZHEMOR_ENTRY_NOT_A_RECORD = 35
+    LULZHEMOR_ENTRY_NOT_A_RECORD = 35,
+    LULZHEMOR_TIMES_FALL_IN_FIRST = 45,
+    LULZHEMOR_TIMES_FALL_IN_SECOND = 46,
+    LULZHEMOR_MERGED_TOO_LONG = 47
 };
 
 /* A refusal in words, as docs/MANUAL.md has it; its table has a remedy for each. */
@@ -121,6 +128,9 @@ static inline const char *lulzhemor_refusal_text(unsigned refusal) {
     case LULZHEMOR_KEY_NO_ENTITY: return "an entry's key is no entity";
     case LULZHEMOR_DUPLICATE_KEY: return "two entries have one key";
     case LULZHEMOR_ENTRY_NOT_A_RECORD: return "an entry's value is no record";
+    case LULZHEMOR_TIMES_FALL_IN_FIRST: return "the first log's times fall";
+    case LULZHEMOR_TIMES_FALL_IN_SECOND: return "the second log's times fall";
+    case LULZHEMOR_MERGED_TOO_LONG: return "the merged log has over 65,536 bytes";
     default: return "unknown refusal";
     }
 }
@@ -157,6 +167,11 @@ bool lulzhemor_is_utf8(const uint8_t *text, size_t text_len);
 /* Judges a log: its count of events, or the first refusal with its line. */
 uint64_t lulzhemor_judge(uint8_t *kinds, size_t kinds_len, uint64_t *numbers, size_t numbers_len, uint8_t *texts, size_t texts_len,
                          const uint8_t *log, size_t log_len);
+
+/* Writes two logs as one, in rising time: its bytes, or the first refusal with its log and line. Each event's line stands there once, trimmed
+ * and with one line feed; at equal times the first log's come first. */
+uint64_t lulzhemor_merge(uint8_t *kinds, size_t kinds_len, uint64_t *numbers, size_t numbers_len, uint8_t *texts, size_t texts_len,
+                         uint8_t *out, size_t out_len, const uint8_t *first, size_t first_len, const uint8_t *second, size_t second_len);
 
 /* Reads one line into a pack: its sizes (lulzhemor_pack_nodes, lulzhemor_pack_texts), 0 where the line is blank, or a refusal. A line feed
  * inside is whitespace. */

@@ -99,6 +99,87 @@ static void judging(void) {
     CHECK(r == LULZHEMOR_REFUSED + LULZHEMOR_TABLE_TOO_SHORT && untouched());
 }
 
+/* Number, log and line of a refusal. */
+static bool refused(uint64_t r, unsigned number, unsigned log, uint32_t line) {
+    return lulzhemor_refused(r) && lulzhemor_refusal(r) == number && lulzhemor_refusal_log(r) == log && lulzhemor_refusal_line(r) == line;
+}
+
+#define ONE "@1 ::\"\"::k()\n"
+#define TWO "@2 ::\"\"::k()\n"
+
+static void merging(void) {
+    static const char first[] = "\xef\xbb\xbf @-1 ::\"\"::a()\r\n\n@5 ::\"\"::b() tail\t", second[] = "@+5 ::\"\"::c()\n@5 ::\"\"::d()\n";
+    static const char merged[] = "@-1 ::\"\"::a()\n@5 ::\"\"::b() tail\n@+5 ::\"\"::c()\n@5 ::\"\"::d()\n";
+    fill();
+    CHECK(lulzhemor_merge(TABLES, out, sizeof out, BYTES(first), BYTES(second)) == strlen(merged));
+    CHECK(wrote(merged) && used(0, 0));
+    fill();
+    CHECK(lulzhemor_merge(TABLES, out, strlen(merged), BYTES(first), BYTES(second)) == strlen(merged) && wrote(merged));
+    fill();
+    CHECK(lulzhemor_merge(TABLES, out, sizeof out, BYTES(second), BYTES(ONE TWO)) == 4 * strlen(ONE) + 1);
+    CHECK(wrote(ONE TWO "@+5 ::\"\"::c()\n@5 ::\"\"::d()\n"));
+    fill();
+    CHECK(lulzhemor_merge(TABLES, out, 0, BYTES(""), BYTES(" \n\t")) == 0 && wrote("") && used(0, 0));
+}
+
+/* A refusal leaves the output, and but for refusal 1 clears the tables. */
+static void merging_refused(void) {
+    fill();
+    CHECK(refused(lulzhemor_merge(TABLES, out, strlen(ONE) - 1, BYTES(ONE), BYTES("")), LULZHEMOR_OUTPUT_TOO_SHORT, 0, 0));
+    CHECK(wrote("") && used(0, 0));
+    fill();
+    CHECK(refused(lulzhemor_merge(TABLES, out, sizeof out, BYTES(TWO "\n" ONE), BYTES(TWO ONE)), LULZHEMOR_TIMES_FALL_IN_FIRST, 1, 3));
+    CHECK(wrote("") && used(0, 0));
+    fill();
+    CHECK(refused(lulzhemor_merge(TABLES, out, sizeof out, BYTES(TWO TWO), BYTES(TWO ONE)), LULZHEMOR_TIMES_FALL_IN_SECOND, 2, 2));
+    CHECK(wrote("") && used(0, 0));
+    CHECK(refused(lulzhemor_merge(TABLES, out, sizeof out, BYTES(TWO ONE), BYTES(TWO "x")), LULZHEMOR_NO_AT, 2, 2));
+    CHECK(refused(lulzhemor_merge(TABLES, out, sizeof out, BYTES("\xff"), BYTES("x")), LULZHEMOR_NOT_UTF8, 1, 0));
+    CHECK(wrote(""));
+    fill();
+    for (size_t each = 0; each < 3; each++) {
+        uint64_t r = lulzhemor_merge(kinds, LULZHEMOR_NODES - (each == 0), numbers, LULZHEMOR_NODES - (each == 1), texts,
+                                     LULZHEMOR_TEXTS - (each == 2), out, sizeof out, BYTES("x"), BYTES("\xff"));
+        CHECK(refused(r, LULZHEMOR_TABLE_TOO_SHORT, 0, 0) && untouched() && wrote(""));
+    }
+}
+
+/* A text with so many copies of another at a place of it. */
+static size_t widened(uint8_t *to, const char *before, const char *each, size_t times, const char *behind) {
+    size_t n = strlen(before);
+    memcpy(to, before, n);
+    for (size_t i = 0; i < times; i++, n += strlen(each)) memcpy(to + n, each, strlen(each));
+    memcpy(to + n, behind, strlen(behind));
+    return n + strlen(behind);
+}
+
+static bool is_old(const uint8_t *bytes, size_t n) {
+    for (size_t i = 0; i < n; i++)
+        if (bytes[i] != 77) return false;
+    return true;
+}
+
+/* Logs at the limit: one that merges into as many bytes as it has, and one whose last line lacks its line feed. */
+static void merging_long(void) {
+    static uint8_t log[LULZHEMOR_TEXT_LIMIT + 1], room[LULZHEMOR_TEXT_LIMIT + 1];
+    size_t n = LULZHEMOR_TEXT_LIMIT;
+    CHECK(widened(log, "", ONE, 5040, "@1 ::\"\"::kkkk()\n") == n);
+    memset(room, 77, sizeof room);
+    CHECK(refused(lulzhemor_merge(TABLES, room, n - 1, log, n, BYTES("")), LULZHEMOR_OUTPUT_TOO_SHORT, 0, 0) && room[0] == 77);
+    CHECK(lulzhemor_merge(TABLES, room, sizeof room, BYTES(""), log, n) == n && memcmp(room, log, n) == 0 && room[n] == 77);
+    CHECK(widened(log, "", ONE, 5040, "@1 ::\"\"::kkkkk()") == n);
+    memset(room, 77, sizeof room);
+    fill();
+    CHECK(refused(lulzhemor_merge(TABLES, room, sizeof room, log, n, BYTES("")), LULZHEMOR_MERGED_TOO_LONG, 0, 0) && used(0, 0));
+    CHECK(refused(lulzhemor_merge(TABLES, room, 0, log, n, BYTES("")), LULZHEMOR_MERGED_TOO_LONG, 0, 0));
+    CHECK(refused(lulzhemor_merge(TABLES, room, sizeof room, log, n + 1, BYTES("x")), LULZHEMOR_TEXT_TOO_LONG, 1, 0));
+    CHECK(refused(lulzhemor_merge(TABLES, room, sizeof room, BYTES(""), log, n + 1), LULZHEMOR_TEXT_TOO_LONG, 2, 0));
+    memset(log, '\n', n - 1);
+    log[n - 1] = 'x';
+    CHECK(refused(lulzhemor_merge(TABLES, room, sizeof room, BYTES(""), log, n), LULZHEMOR_NO_AT, 2, LULZHEMOR_TEXT_LIMIT));
+    CHECK(is_old(room, sizeof room));
+}
+
 static void reading(void) {
     fill();
     uint64_t r = lulzhemor_read_line(TABLES, BYTES(EVENT));
@@ -138,15 +219,6 @@ static void listing(void) {
     CHECK(r == LULZHEMOR_REFUSED + LULZHEMOR_TABLE_TOO_SHORT && untouched() && wrote(""));
 }
 
-/* A text with so many copies of another at a place of it. */
-static size_t widened(uint8_t *to, const char *before, const char *each, size_t times, const char *behind) {
-    size_t n = strlen(before);
-    memcpy(to, before, n);
-    for (size_t i = 0; i < times; i++, n += strlen(each)) memcpy(to + n, each, strlen(each));
-    memcpy(to + n, behind, strlen(behind));
-    return n + strlen(behind);
-}
-
 /* The longest line, whose every character lists as six. */
 static void long_listing(void) {
     static uint8_t line[LULZHEMOR_LINE_LIMIT], expected[8 * LULZHEMOR_LINE_LIMIT], room[LULZHEMOR_LISTING_ROOM];
@@ -157,14 +229,14 @@ static void long_listing(void) {
     CHECK(lulzhemor_list_line(TABLES, room, sizeof room, line, sizeof line, UINT64_MAX) == n && memcmp(room, expected, n) == 0);
 }
 
-static bool is_refusal(unsigned n) { return (n >= 1 && n <= 5) || (n >= 10 && n <= 35); }
+static bool is_refusal(unsigned n) { return (n >= 1 && n <= 5) || (n >= 10 && n <= 35) || (n >= 45 && n <= 47); }
 
 /* Each number has a text of its own; all others share one. */
 static void refusal_texts(void) {
     const char *unknown = lulzhemor_refusal_text(0);
     CHECK(strcmp(unknown, "unknown refusal") == 0);
     for (unsigned n = 1; n <= 300; n++) CHECK((strcmp(lulzhemor_refusal_text(n), unknown) != 0) == is_refusal(n));
-    for (unsigned n = 1; n <= 35; n++)
+    for (unsigned n = 1; n <= 47; n++)
         for (unsigned m = 1; is_refusal(n) && m < n; m++) CHECK(strcmp(lulzhemor_refusal_text(n), lulzhemor_refusal_text(m)) != 0);
     CHECK(strcmp(lulzhemor_refusal_text(LULZHEMOR_EVENT_OUT_OF_ORDER), "the last ) stands before the first (") == 0);
 }
@@ -187,6 +259,9 @@ static void texts_alone(void) {
 
 int main(void) {
     judging();
+    merging();
+    merging_refused();
+    merging_long();
     reading();
     listing();
     long_listing();

@@ -1,18 +1,21 @@
-//! Runs the night listing on inputs and outputs that a terminal seldom has: pieces of one byte, sizes at the limit, random bytes, outputs
-//! that fail. In every case the program must end by itself, what it wrote must be the oracle's listing, or as much of it as the output
-//! took, and nothing may come on its error output. The manual's examples and the stored night listings are cases too. Takes the paths of
-//! program, manual and `nights.bin`; prints each case that failed, and how many there were.
+//! Runs the two programs on inputs and outputs that a terminal seldom has: pieces of one byte, sizes at the limit, random bytes, files that
+//! cannot be read, outputs that fail. In every case a program must end by itself, what it wrote must be the oracle's answer, or as much
+//! of it as the output took, and on its error output may come what could not be done, and from the night listing nothing. The manual's
+//! examples and the stored night listings are cases too. Takes the paths of the night listing, the merging program, the manual and
+//! `nights.bin`; prints each case that failed, and how many there were.
 
 mod logs;
 mod manual;
+mod merges;
 mod nights;
 mod tester;
 
 use logs::{EXAMPLE, LINE, LOG, Random, crowded, is_listed, log_of, sketched, wide_log, widest};
 use std::fs;
+use std::path::Path;
 use std::process::exit;
 use std::time::Duration;
-use tester::Tester;
+use tester::{Case, Tester};
 
 fn inputs(t: &mut Tester) {
     t.whole("no input", b"");
@@ -56,10 +59,16 @@ fn refused_logs(t: &mut Tester) {
     for (log, answer) in [
         ("x".to_string(), "refused 10 line 1\n"),
         (format!("{event}\n{event}\n@x"), "refused 11 line 3\n"),
-        (format!("\u{feff}\n \t\r\n{event}\r\n@1 a"), "refused 16 line 4\n"),
+        (
+            format!("\u{feff}\n \t\r\n{event}\r\n@1 a"),
+            "refused 16 line 4\n",
+        ),
         (format!("{event}\n\u{feff}{event}"), "refused 10 line 2\n"),
         (format!("@+ {event}\n@"), "refused 12 line 1\n"),
-        (format!("{event}\n@1 {}", "x".repeat(LINE)), "refused 4 line 2\n"),
+        (
+            format!("{event}\n@1 {}", "x".repeat(LINE)),
+            "refused 4 line 2\n",
+        ),
         ("\n".repeat(LOG + 1), "refused 2 line 0\n"),
     ] {
         t.listed(answer, log.as_bytes(), answer.as_bytes());
@@ -69,8 +78,10 @@ fn refused_logs(t: &mut Tester) {
 }
 
 fn pieces(t: &mut Tester) {
-    t.pipe_of_bytes("single bytes through a pipe", &log_of(2_000));
-    t.pipe_of_bytes("single bytes, refused", b"@40 a::\"b\"::c(\n");
+    let short = Case::listing(&log_of(2_000));
+    t.pipe_of_bytes("single bytes through a pipe", &short);
+    let refused = Case::listing(b"@40 a::\"b\"::c(\n");
+    t.pipe_of_bytes("single bytes, refused", &refused);
     t.datagrams("single bytes", EXAMPLE.as_bytes(), 1);
     for size in [LOG, LOG + 1] {
         t.datagrams(&format!("{size} single bytes"), &log_of(size), 1);
@@ -83,50 +94,52 @@ fn pieces(t: &mut Tester) {
 }
 
 /// Outputs that take nothing.
-fn shut_outputs(t: &mut Tester, name: &str, input: &[u8]) {
-    t.shut(
-        &format!("{name} to a closed output"),
-        "exec \"$0\" >&-",
-        input,
-    );
-    t.shut(
-        &format!("{name} to a full device"),
-        "exec \"$0\" >/dev/full",
-        input,
-    );
+pub fn shut_outputs(t: &mut Tester, name: &str, case: &Case) {
+    for (kind, shut) in [("a closed output", ">&-"), ("a full device", ">/dev/full")] {
+        let script = format!("exec \"$0\" \"$@\" {shut}");
+        t.shut(&format!("{name} to {kind}"), &script, case);
+    }
     for ignored in [false, true] {
         let name = format!("{name} to a pipe closed at once, signal ignored: {ignored}");
-        t.cut_off(&name, input, 0, ignored);
+        t.cut_off(&name, case, 0, ignored);
     }
 }
 
-/// Outputs that take something and then nothing.
-fn ending_outputs(t: &mut Tester, input: &[u8]) {
+/// A file that may grow so far.
+pub fn limited_files(t: &mut Tester, case: &Case) {
+    for ignored in [false, true] {
+        for blocks in [0, 1, 2, 7, 100, 10_000] {
+            let name = format!("a file of {blocks} blocks, signal ignored: {ignored}");
+            t.limited_file(&name, case, blocks, ignored);
+        }
+    }
+}
+
+/// A pipe that is closed behind so many bytes.
+fn closed_pipes(t: &mut Tester, case: &Case) {
     for ignored in [false, true] {
         for after in [1, 9_999] {
             let name = format!("a pipe closed behind {after} bytes, signal ignored: {ignored}");
-            t.cut_off(&name, input, after, ignored);
-        }
-        for blocks in [0, 1, 2, 7, 100, 10_000] {
-            let name = format!("a file of {blocks} blocks, signal ignored: {ignored}");
-            t.limited_file(&name, input, blocks, ignored);
+            t.cut_off(&name, case, after, ignored);
         }
     }
 }
 
 /// Outputs that take all, or could, but not at once.
 fn slow_outputs(t: &mut Tester) {
-    let (long, wide) = (log_of(LOG), wide_log());
+    let (long, wide) = (Case::listing(&log_of(LOG)), Case::listing(&wide_log()));
     for n in 0..20 {
         let pause = Duration::from_millis(2 * n);
         t.hasty_pipe(
             &format!("a pipe that does not wait, read behind {pause:?}"),
             &wide,
+            0,
             pause,
         );
         t.hasty_pipe(
             &format!("the same, short events, read behind {pause:?}"),
             &long,
+            0,
             pause,
         );
     }
@@ -135,41 +148,54 @@ fn slow_outputs(t: &mut Tester) {
     t.slow_reader("a slow reader", &long);
 }
 
+fn listings(t: &mut Tester, manual: &str, stored: &[u8]) {
+    inputs(t);
+    refused_logs(t);
+    pieces(t);
+    let long = Case::listing(&log_of(LOG));
+    shut_outputs(t, "an event", &Case::listing(EXAMPLE.as_bytes()));
+    shut_outputs(t, "a long log", &long);
+    shut_outputs(t, "a refusal", &Case::listing(b"@"));
+    shut_outputs(t, "no input", &Case::listing(b""));
+    closed_pipes(t, &long);
+    limited_files(t, &long);
+    slow_outputs(t);
+    manual::values(t, manual);
+    manual::refusals(t, manual);
+    manual::event(t, manual);
+    nights::replay(t, stored);
+}
+
+/// Tests a program; whether all was as it should be.
+fn tested(program: &str, scratch: &Path, tests: impl FnOnce(&mut Tester)) -> bool {
+    let mut tester = Tester {
+        program: program.to_string(),
+        scratch: scratch.to_path_buf(),
+        cases: 0,
+        failed: 0,
+    };
+    tests(&mut tester);
+    println!(
+        "robustness of {}: {} cases, {} failed",
+        tester.program, tester.cases, tester.failed
+    );
+    tester.failed == 0
+}
+
 fn main() {
     let args: Vec<String> = std::env::args().skip(1).collect();
-    let [program, manual, nights] = args.as_slice() else {
-        eprintln!("usage: robustness PROGRAM MANUAL NIGHTS");
+    let [lister, merger, manual, nights] = args.as_slice() else {
+        eprintln!("usage: robustness LISTER MERGER MANUAL NIGHTS");
         exit(2);
     };
     let text = fs::read_to_string(manual).expect("the manual");
     let stored = fs::read(nights).expect("the night listings");
     let scratch = std::env::temp_dir().join(format!("robustness-{}", std::process::id()));
     fs::create_dir_all(&scratch).expect("create_dir_all");
-    let mut tester = Tester {
-        program: program.clone(),
-        scratch,
-        cases: 0,
-        failed: 0,
-    };
-    inputs(&mut tester);
-    refused_logs(&mut tester);
-    pieces(&mut tester);
-    shut_outputs(&mut tester, "an event", EXAMPLE.as_bytes());
-    shut_outputs(&mut tester, "a long log", &log_of(LOG));
-    shut_outputs(&mut tester, "a refusal", b"@");
-    shut_outputs(&mut tester, "no input", b"");
-    ending_outputs(&mut tester, &log_of(LOG));
-    slow_outputs(&mut tester);
-    manual::values(&mut tester, &text);
-    manual::refusals(&mut tester, &text);
-    manual::event(&mut tester, &text);
-    nights::replay(&mut tester, &stored);
-    fs::remove_dir_all(&tester.scratch).expect("remove_dir_all");
-    println!(
-        "robustness of {}: {} cases, {} failed",
-        tester.program, tester.cases, tester.failed
-    );
-    if tester.failed > 0 {
+    let listed = tested(lister, &scratch, |t| listings(t, &text, &stored));
+    let merged = tested(merger, &scratch, |t| merges::all(t, &text));
+    fs::remove_dir_all(&scratch).expect("remove_dir_all");
+    if !(listed && merged) {
         exit(1);
     }
 }

@@ -1,6 +1,8 @@
 //! The manual's examples: it says what the program and the Rust give.
 
-use crate::tester::Tester;
+use crate::logs::LOG;
+use crate::merges::whole_log;
+use crate::tester::{Case, Tester};
 use oracle::answers;
 
 /// The rows of a table below this head, as cells. Code loses its backticks.
@@ -21,6 +23,11 @@ fn code(cell: &str) -> Option<&str> {
     cell.strip_prefix('`')?
         .strip_suffix('`')
         .filter(|code| !code.contains('`'))
+}
+
+/// Each piece of code in a cell.
+fn codes(cell: &str) -> Vec<&str> {
+    cell.split('`').skip(1).step_by(2).collect()
 }
 
 /// The text of the first block of this language.
@@ -65,7 +72,7 @@ pub fn refusals(t: &mut Tester, manual: &str) {
         .iter()
         .filter_map(|row| Some((&row[0], code(&row[2])?)));
     let examples: Vec<_> = examples.collect();
-    assert!(table.len() == 31 && examples.len() == 24);
+    assert!(table.len() == 34 && examples.len() == 24);
     for (number, example) in examples {
         let start = format!("refused {number} ");
         let refused = |log: &str| answers::night_listing(log.as_bytes()).starts_with(&start);
@@ -98,4 +105,41 @@ pub fn event(t: &mut Tester, manual: &str) {
         pack.starts_with(&format!("nodes 21 texts 24\n{printed}")),
         "manual: the pack"
     );
+}
+
+/// The example of merging, and the refusals that it alone meets: the lines of their examples are a log, which is merged with an empty one.
+pub fn merging(t: &mut Tester, manual: &str) {
+    let [first, second] = ["first", "second"].map(|log| block(manual, log).as_bytes());
+    assert_eq!(answers::merge(first, second), block(manual, "merged"));
+    let case = Case::merge(t, first, second);
+    t.answered("manual: the merged log", &case);
+    for row in rows(manual, "| Remedy |\n") {
+        let log = match row[0].as_str() {
+            "45" | "46" => codes(&row[2]).join("\n").into_bytes(),
+            "47" => whole_log(LOG + 1).trim_end().as_bytes().to_vec(),
+            _ => continue,
+        };
+        let logs = |log: &[u8]| {
+            if row[0] == "46" {
+                [vec![], log.to_vec()]
+            } else {
+                [log.to_vec(), vec![]]
+            }
+        };
+        let start = format!("refused {} ", row[0]);
+        let refused = |log: &[u8]| {
+            let [first, second] = logs(log);
+            answers::merge(&first, &second).starts_with(&start)
+        };
+        let without = |at: usize| [&log[..at], &log[at + 1..]].concat();
+        assert!(refused(&log), "manual: {}", row[0]);
+        assert!(
+            !(0..log.len().min(50)).any(|at| refused(&without(at))),
+            "manual: {}",
+            row[0]
+        );
+        let [first, second] = logs(&log);
+        let case = Case::merge(t, &first, &second);
+        t.answered(&format!("manual: refusal {}", row[0]), &case);
+    }
 }

@@ -13,6 +13,20 @@ mod c {
             log: *const u8,
             log_len: usize,
         ) -> u64;
+        pub fn lulzhemor_merge(
+            kinds: *mut u8,
+            kinds_len: usize,
+            numbers: *mut u64,
+            numbers_len: usize,
+            texts: *mut u8,
+            texts_len: usize,
+            out: *mut u8,
+            out_len: usize,
+            first: *const u8,
+            first_len: usize,
+            second: *const u8,
+            second_len: usize,
+        ) -> u64;
         pub fn lulzhemor_read_line(
             kinds: *mut u8,
             kinds_len: usize,
@@ -77,6 +91,32 @@ pub fn judge(kinds: &mut [u8], numbers: &mut [u64], texts: &mut [u8], log: &[u8]
             texts.len(),
             log.as_ptr(),
             log.len(),
+        )
+    }
+}
+
+pub fn merge(
+    kinds: &mut [u8],
+    numbers: &mut [u64],
+    texts: &mut [u8],
+    out: &mut [u8],
+    first: &[u8],
+    second: &[u8],
+) -> u64 {
+    unsafe {
+        c::lulzhemor_merge(
+            kinds.as_mut_ptr(),
+            kinds.len(),
+            numbers.as_mut_ptr(),
+            numbers.len(),
+            texts.as_mut_ptr(),
+            texts.len(),
+            out.as_mut_ptr(),
+            out.len(),
+            first.as_ptr(),
+            first.len(),
+            second.as_ptr(),
+            second.len(),
         )
     }
 }

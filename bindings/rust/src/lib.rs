@@ -18,9 +18,10 @@ mod ffi;
 mod refusal;
 
 pub use event::{Entities, Entity, Entry, Event, Fields, Items, Texts, Value};
-pub use refusal::{Refusal, RefusedLine};
+pub use refusal::{MergeRefusal, Refusal, RefusedLine};
 
-/// A log or any other text, in bytes: [`Refusal::TEXT_TOO_LONG`] above this.
+/// A log or any other text, in bytes: [`Refusal::TEXT_TOO_LONG`] above this, and [`Refusal::MERGED_TOO_LONG`] for a merged log. An output of so
+/// many bytes is never too short for one.
 pub const TEXT_LIMIT: usize = 65_536;
 /// A trimmed line, a body, an id or a type, in bytes: [`Refusal::LINE_TOO_LONG`] above this.
 pub const LINE_LIMIT: usize = 4_096;
@@ -37,6 +38,11 @@ fn answer(number: u64) -> Result<u64, Refusal> {
     } else {
         Err(Refusal((number & 255) as u8))
     }
+}
+
+/// The line of a refusal: 256 times it stands above the number, and 2^26 times the log above both.
+fn line_of(number: u64) -> u64 {
+    number >> 8 & 0x3FFFF
 }
 
 /// What was written at the start of an output: UTF-8, as all that is read and written is.
@@ -65,8 +71,37 @@ impl Tables {
         let number = ffi::judge(&mut self.kinds, &mut self.numbers, &mut self.texts, log);
         answer(number).map_err(|refusal| RefusedLine {
             refusal,
-            line: (number - REFUSED) >> 8,
+            line: line_of(number),
         })
+    }
+
+    /// Writes two logs as one, in rising time: how many bytes it has, which are the output's first; or the first refusal. Each event's line
+    /// stands there once, trimmed and with one line feed; at equal times the first log's come first. A refusal leaves the output as it was.
+    ///
+    /// ```
+    /// let mut tables = lulzhemor::Tables::new();
+    /// let mut out = vec![0; lulzhemor::TEXT_LIMIT];
+    /// let (first, second) = (r#"@2 ::"a"::k()"#, r#"@1 ::"b"::k()"#);
+    /// let count = tables.merge(first.as_bytes(), second.as_bytes(), &mut out)?;
+    /// assert_eq!(out[..count], *format!("{second}\n{first}\n").as_bytes());
+    /// # Ok::<(), lulzhemor::MergeRefusal>(())
+    /// ```
+    pub fn merge(
+        &mut self,
+        first: &[u8],
+        second: &[u8],
+        out: &mut [u8],
+    ) -> Result<usize, MergeRefusal> {
+        let (kinds, numbers, texts) = (&mut self.kinds, &mut self.numbers, &mut self.texts);
+        let number = ffi::merge(kinds, numbers, texts, out, first, second);
+        match answer(number) {
+            Ok(count) => Ok(count as usize),
+            Err(refusal) => Err(MergeRefusal {
+                refusal,
+                log: (number >> 26 & 3) as u8,
+                line: line_of(number),
+            }),
+        }
     }
 
     /// Reads one line: its event, or `None` where it is blank. A line feed inside is whitespace.

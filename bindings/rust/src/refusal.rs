@@ -14,6 +14,15 @@ pub struct RefusedLine {
     pub line: u64,
 }
 
+/// The first refusal of two logs that were to be merged: the log that has it, 1 or 2, and the line where it was met; both are 0 where it
+/// speaks of neither log, and the line is where it speaks of a whole log.
+#[derive(Debug, Clone, Copy, PartialEq, Eq, Hash)]
+pub struct MergeRefusal {
+    pub refusal: Refusal,
+    pub log: u8,
+    pub line: u64,
+}
+
 macro_rules! refusals {
     ($($name:ident = $number:literal, $text:literal;)*) => {
         impl Refusal {
@@ -62,6 +71,9 @@ refusals! {
     KEY_NO_ENTITY = 33, "an entry's key is no entity";
     DUPLICATE_KEY = 34, "two entries have one key";
     ENTRY_NOT_A_RECORD = 35, "an entry's value is no record";
+    TIMES_FALL_IN_FIRST = 45, "the first log's times fall";
+    TIMES_FALL_IN_SECOND = 46, "the second log's times fall";
+    MERGED_TOO_LONG = 47, "the merged log has over 65,536 bytes";
 }
 
 impl fmt::Display for Refusal {
@@ -82,5 +94,19 @@ impl fmt::Display for RefusedLine {
     }
 }
 
+impl fmt::Display for MergeRefusal {
+    fn fmt(&self, f: &mut fmt::Formatter) -> fmt::Result {
+        write!(
+            f,
+            "refused {} log {} line {}: {}",
+            self.refusal.0,
+            self.log,
+            self.line,
+            self.refusal.message()
+        )
+    }
+}
+
 impl Error for Refusal {}
 impl Error for RefusedLine {}
+impl Error for MergeRefusal {}

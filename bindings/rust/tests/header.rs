@@ -29,9 +29,11 @@ fn refusals() -> BTreeMap<u8, String> {
 #[test]
 fn each_refusal_has_the_text_of_the_header() {
     let texts = refusals();
-    assert_eq!(texts.len(), 31);
+    assert_eq!(texts.len(), 34);
     for number in 0..=255 {
-        let known = (1..=5).contains(&number) || (10..=35).contains(&number);
+        let known = [1..=5, 10..=35, 45..=47]
+            .iter()
+            .any(|numbers| numbers.contains(&number));
         let text = texts.get(&number).map(String::as_str);
         assert_eq!(text.is_some(), known, "{number}");
         let text = text.unwrap_or("unknown refusal");

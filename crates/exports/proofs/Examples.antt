@@ -5,8 +5,9 @@ use Rattle.cuts.specs.declared.Cut.the-variants as cut
 use Rattle.keys.specs.declared.Spelled.the-variants as spelling
 use Rattle.lines.specs.declared.LineRead.the-variants as reading
 use Rattle.logs.specs.declared.Judged.the-variants as judging
+use Rattle.merging.specs.declared.Merged.the-variants as merging
 use Rattle.listing.specs.declared.Listed.the-variants as listing
-use Rattle.exports.specs.Answer.{ofCut, ofSpelled, ofRead, ofJudged, ofListed}
+use Rattle.exports.specs.Answer.{ofCut, ofSpelled, ofRead, ofJudged, ofMerged, ofListed}
 
 -- two commas cut
 two-places : ofCut (cut.Places 2) ≡ 2
@@ -23,6 +24,10 @@ pack-sizes = refl
 -- refusal 18 at line 3
 refused-at-line : ofJudged (judging.Refused 18 3) ≡ 4294968082
 refused-at-line = refl
+
+-- refusal 46 at line 3 of the second log
+times-fall : ofMerged (merging.Refused 46 2 3) ≡ 4429185838
+times-fall = refl
 
 -- nothing is listed of a blank line
 blank-listed : ofListed listing.Blank ≡ 0

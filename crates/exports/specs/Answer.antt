@@ -1,5 +1,6 @@
--- How an answer that is an enum passes to C: as one number. Refusal n of document 01 is 2^32 + n, and in a judged log 256 times its line
--- more; a success is less: the count of what was written, of events, or a pack's two sizes. A blank line is 0.
+-- How an answer that is an enum passes to C: as one number. Refusal n of document 01 is 2^32 + n, and in a log that is judged or merged
+-- 256 times its line more, and of two logs 2^26 times the log more; a success is less: the count of what was written, of events, or a
+-- pack's two sizes. A blank line is 0.
 -- Assumes nothing.
 use mathlib.Core.Bool.{cond}
 use mathlib.Core.List.{List}
@@ -19,6 +20,9 @@ use Rattle.lines.specs.declared.LineRead.the-variants as reading
 use Rattle.logs.specs.Judge.{judgeLog}
 use Rattle.logs.specs.declared.Judged.{Judged}
 use Rattle.logs.specs.declared.Judged.the-variants as judging
+use Rattle.merging.specs.Merge.{mergeLogs}
+use Rattle.merging.specs.declared.Merged.{Merged}
+use Rattle.merging.specs.declared.Merged.the-variants as merging
 use Rattle.listing.specs.Entry.{listAnswer}
 use Rattle.listing.specs.declared.Listed.{Listed}
 use Rattle.listing.specs.declared.Listed.the-variants as listing
@@ -48,6 +52,10 @@ abbrev pub ofJudged : Judged → ℕ
 ofJudged (judging.Accepted n) = n
 ofJudged (judging.Refused n line) = refusal n + 256 * line
 
+abbrev pub ofMerged : Merged → ℕ
+ofMerged (merging.Written n) = n
+ofMerged (merging.Refused n log line) = refusal n + 256 * line + 67108864 * log
+
 abbrev pub ofListed : Listed → ℕ
 ofListed (listing.Written n) = n
 ofListed listing.Blank = 0
@@ -60,6 +68,9 @@ readAnswer s k n t = cond (enough k n t) (answerOf (readLine s)) (reading.Refuse
 
 abbrev pub judgeAnswer : List ℕ → List ℕ → List ℕ → List ℕ → Judged
 judgeAnswer s k n t = cond (enough k n t) (judgeLog s) (judging.Refused tableTooShort 0)
+
+abbrev pub mergeAnswer : List ℕ → List ℕ → List ℕ → List ℕ → List ℕ → List ℕ → Merged
+mergeAnswer first second k n t out = cond (enough k n t) (mergeLogs first second (length out)) (merging.Refused tableTooShort 0 0)
 
 abbrev pub lineListed : List ℕ → ℕ → List ℕ → List ℕ → List ℕ → List ℕ → Listed
 lineListed s number k n t out = cond (enough k n t) (listAnswer number (length out) (readLine s)) (listing.Refused tableTooShort)

@@ -9,17 +9,21 @@ ghost use Rattle.escapes.specs.Entry.{decoded, outputAfter};
 ghost use Rattle.keys.specs.Entry.{spellKey, spellOutput};
 ghost use Rattle.lines.specs.Entry as Lines;
 ghost use Rattle.logs.specs.Judge as Logs;
+ghost use Rattle.merging.specs.Merge as Merging;
 ghost use Rattle.listing.specs.Entry as Listing;
-ghost use Rattle.exports.specs.Answer.{ofCut, ofDecoded, ofSpelled, ofRead, readAnswer, ofJudged, judgeAnswer, ofListed, lineListed};
+ghost use Rattle.exports.specs.Answer.{ofCut, ofDecoded, ofSpelled, ofRead, readAnswer, ofJudged, judgeAnswer, ofMerged, mergeAnswer, ofListed, lineListed};
 use cuts::Cut;
 use escapes::Decoded;
 use keys::Spelled;
 use lines::LineRead;
 use listing::Listed;
 use logs::Judged;
+use merging::Merged;
 
 // Refusal n of document 01 is this number and n: no success is as large.
 const REFUSED: u64 = 4_294_967_296;
+// The log of a refusal where two are merged is so many times more, 2^26: 256 times a line is less.
+const PER_LOG: u64 = 67_108_864;
 
 // Is the text UTF-8?
 #[no_mangle]
@@ -101,6 +105,31 @@ pub extern "C" fn lulzhemor_judge(
     match logs::judge(kinds, numbers, texts, log) {
         Judged::Accepted(count) => count as u64,
         Judged::Refused(number, line) => REFUSED + (number as u64) + 256 * (line as u64),
+    }
+}
+
+// Merges two logs: how many bytes the merged log has, which are the output's first; or a refusal, 256 times the line where it was met and
+// 2^26 times the log, 1 or 2, the output unchanged.
+#[no_mangle]
+pub extern "C" fn lulzhemor_merge(
+    kinds: &mut [u8],
+    numbers: &mut [u64],
+    texts: &mut [u8],
+    out: &mut [u8],
+    first: &[u8],
+    second: &[u8],
+) -> u64
+    ensures { λ r. ⌜ r ≡ ofMerged (mergeAnswer (now (first .entry)) (now (second .entry)) (now (kinds .entry)) (now (numbers .entry)) (now (texts .entry)) (now (out .entry))) ⌝ }
+    ensures { λ _. ⌜ Merging.Whole (now (first .entry)) (now (second .entry)) (now (kinds .entry)) (now (numbers .entry)) (now (texts .entry)) (now (out .entry))
+        (mergeAnswer (now (first .entry)) (now (second .entry)) (now (kinds .entry)) (now (numbers .entry)) (now (texts .entry)) (now (out .entry)))
+        (now (kinds .exit)) (now (numbers .exit)) (now (texts .exit)) (now (out .exit)) ⌝ }
+{
+    match merging::merge(kinds, numbers, texts, out, first, second) {
+        Merged::Written(count) => count as u64,
+        Merged::Refused(number, log, line) => REFUSED
+            + (number as u64)
+            + 256 * (line as u64)
+            + PER_LOG * (log as u64),
     }
 }
 
