@@ -4,6 +4,8 @@
 
 #[path = "bench_logs.rs"]
 mod logs;
+#[path = "bench_merges.rs"]
+mod merges;
 
 use oracle::pack::Pack;
 use oracle::reader;
@@ -36,6 +38,20 @@ mod ours {
                 l: usize,
                 log: *const u8,
                 n: usize,
+            ) -> u64;
+            pub fn lulzhemor_merge(
+                kinds: *mut u8,
+                k: usize,
+                numbers: *mut u64,
+                m: usize,
+                texts: *mut u8,
+                l: usize,
+                out: *mut u8,
+                j: usize,
+                first: *const u8,
+                n: usize,
+                second: *const u8,
+                o: usize,
             ) -> u64;
             pub fn lulzhemor_list_line(
                 kinds: *mut u8,
@@ -132,6 +148,25 @@ mod ours {
                 tables.texts.len(),
                 log.as_ptr(),
                 log.len(),
+            )
+        }
+    }
+
+    pub fn merge(tables: &mut super::Tables, out: &mut [u8], first: &[u8], second: &[u8]) -> u64 {
+        unsafe {
+            c::lulzhemor_merge(
+                tables.kinds.as_mut_ptr(),
+                tables.kinds.len(),
+                tables.numbers.as_mut_ptr(),
+                tables.numbers.len(),
+                tables.texts.as_mut_ptr(),
+                tables.texts.len(),
+                out.as_mut_ptr(),
+                out.len(),
+                first.as_ptr(),
+                first.len(),
+                second.as_ptr(),
+                second.len(),
             )
         }
     }
@@ -696,6 +731,8 @@ fn main() {
     match words.iter().map(String::as_str).collect::<Vec<_>>()[..] {
         ["kinds"] => logs::names(),
         ["once", kind, side] => logs::once(kind, side),
+        ["merged kinds"] => merges::names(),
+        ["merged once", kind, side] => merges::once(kind, side),
         _ => tables(words.first().map_or("", String::as_str)),
     }
 }
@@ -710,4 +747,5 @@ fn tables(word: &str) {
     level_rows();
     value_rows();
     logs::rows(word);
+    merges::rows(word);
 }

@@ -7,9 +7,9 @@ use crate::{Tables, ours};
 use oracle::{listing, parse_trace};
 use std::hint::black_box;
 
-const ROUNDS: usize = 151;
+pub const ROUNDS: usize = 151;
 /// A turn in nanoseconds.
-const TURN: f64 = 1e6;
+pub const TURN: f64 = 1e6;
 
 /// C's `struct timespec`.
 #[repr(C)]
@@ -38,7 +38,7 @@ fn thread_time() -> f64 {
 }
 
 /// The time of one run, of so many.
-fn time(runs: u32, f: &mut dyn FnMut() -> u64) -> f64 {
+pub fn time(runs: u32, f: &mut dyn FnMut() -> u64) -> f64 {
     let start = thread_time();
     for _ in 0..runs {
         black_box(f());
@@ -47,12 +47,12 @@ fn time(runs: u32, f: &mut dyn FnMut() -> u64) -> f64 {
 }
 
 /// A kind of log: what it is called, and its lines.
-struct Kind {
-    name: &'static str,
+pub struct Kind {
+    pub name: &'static str,
     line: fn(usize) -> String,
 }
 
-const KINDS: [Kind; 11] = [
+pub const KINDS: [Kind; 11] = [
     Kind {
         name: "typical",
         line: typical,
@@ -165,12 +165,12 @@ fn long_strings(i: usize) -> String {
     format!("@{i} Dig::\"note\"::request(first: \"{text}\", second: \"{text}\")")
 }
 
-/// As many lines as 65,536 bytes have room for.
-fn log_of(kind: &Kind) -> String {
+/// As many lines as so many bytes have room for.
+pub fn log_of(kind: &Kind, bytes: usize) -> String {
     let mut log = String::new();
     for i in 0.. {
         let line = (kind.line)(i);
-        if log.len() + line.len() + 1 > 65_536 {
+        if log.len() + line.len() + 1 > bytes {
             break;
         }
         log += &line;
@@ -213,7 +213,7 @@ fn our_list(list: ListLine, tables: &mut Tables, out: &mut [u8], log: &str) -> u
     total
 }
 
-fn median(mut numbers: Vec<f64>) -> f64 {
+pub fn median(mut numbers: Vec<f64>) -> f64 {
     numbers.sort_by(f64::total_cmp);
     numbers[numbers.len() / 2]
 }
@@ -252,7 +252,7 @@ pub fn rows(word: &str) {
     let mut tables = Tables::new();
     let mut out = vec![0u8; 65_536];
     for kind in &KINDS {
-        let log = log_of(kind);
+        let log = log_of(kind, 65_536);
         if format!("judge log {}", kind.name).contains(word) {
             let (rust, ours) = (&mut || rust_judge(&log), &mut || {
                 ours::judge(&mut tables, black_box(log.as_bytes()))
@@ -285,7 +285,7 @@ pub fn once(name: &str, side: &str) {
         .iter()
         .find(|kind| kind.name == name)
         .expect("a kind of log");
-    let mut log = log_of(kind);
+    let mut log = log_of(kind, 65_536);
     if side.contains("list") {
         log = log.split_inclusive('\n').take(256).collect();
     }

@@ -38,6 +38,13 @@ static void *list_line(void *unused) {
     return unused;
 }
 
+/* The line is both logs. */
+static void *merge(void *unused) {
+    const uint8_t *log = (const uint8_t *)line;
+    answer = lulzhemor_merge(TABLES, out, sizeof out, log, length, log, length);
+    return unused;
+}
+
 static size_t used(void *(*call)(void *)) {
     pthread_attr_t attributes;
     pthread_t thread;
@@ -63,15 +70,15 @@ static void nest(const char *front, const char *open, const char *inside, const 
 
 static void row(const char *what) {
     size_t base = used(nothing);
-    size_t judged = used(judge), read = used(read_line), listed = used(list_line);
+    size_t judged = used(judge), merged = used(merge), read = used(read_line), listed = used(list_line);
     char says[32] = "accepted";
     if (lulzhemor_refused(answer)) snprintf(says, sizeof says, "refused %u", lulzhemor_refusal(answer));
-    printf("| %s | %s | %zu | %zu | %zu |\n", what, says, judged - base, read - base, listed - base);
+    printf("| %s | %s | %zu | %zu | %zu | %zu |\n", what, says, judged - base, merged - base, read - base, listed - base);
 }
 
 int main(void) {
     static const char arguments[] = "@0 D::\"a\"::k(v: ", entity[] = "@0 entities(C::\"a\": {v: ", behind[] = "}) D::\"a\"::k()";
-    printf("| line | | judge | read_line | list_line |\n|---|---|---:|---:|---:|\n");
+    printf("| line | | judge | merge | read_line | list_line |\n|---|---|---:|---:|---:|---:|\n");
     nest("", "", "", "", "", 0);
     row("blank");
     nest(arguments, "", "1", "", ")", 0);

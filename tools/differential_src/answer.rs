@@ -9,9 +9,12 @@ pub enum Ask {
     Cut,
     Decode,
     Key,
+    Merge,
 }
 
-pub const ASKS: [&str; 6] = ["judge", "read_line", "list_line", "cut_body", "decode", "spell_key"];
+pub const ASKED: usize = 7;
+pub const ASKS: [&str; ASKED] =
+    ["judge", "read_line", "list_line", "cut_body", "decode", "spell_key", "merge"];
 
 impl Ask {
     pub fn index(self) -> usize {
@@ -22,11 +25,12 @@ impl Ask {
             Ask::Cut => 3,
             Ask::Decode => 4,
             Ask::Key => 5,
+            Ask::Merge => 6,
         }
     }
 
     pub fn has_tables(self) -> bool {
-        self.index() < 3
+        self.index() < 3 || self == Ask::Merge
     }
 }
 
@@ -38,15 +42,30 @@ pub enum Lent {
     ShortKinds,
     ShortNumbers,
     ShortTexts,
+    /// So many entries.
+    Any([usize; 3]),
+}
+
+impl Lent {
+    /// Has each table the length that 01 asks for?
+    pub fn is_enough(self) -> bool {
+        match self {
+            Lent::Longer | Lent::Exact => true,
+            Lent::ShortKinds | Lent::ShortNumbers | Lent::ShortTexts => false,
+            Lent::Any([kinds, numbers, texts]) => {
+                kinds >= 8_192 && numbers >= 8_192 && texts >= 32_768
+            }
+        }
+    }
 }
 
 #[derive(Clone, Copy, PartialEq, Debug)]
 pub struct Question<'a> {
     pub ask: Ask,
-    /// The log, line, body or text; of a key, the id.
+    /// The log, line, body or text; of a key, the id; of two logs, the first.
     pub text: &'a [u8],
-    /// Of a key, the type.
-    pub ty: &'a [u8],
+    /// Of a key, the type; of two logs, the second.
+    pub other: &'a [u8],
     pub lent: Lent,
     /// How many entries longer than the right answer the output is.
     pub slack: i32,
@@ -56,6 +75,8 @@ pub struct Question<'a> {
 pub enum Answer {
     Refused(u8),
     RefusedAt(u8, usize),
+    /// The number, the log and the line.
+    RefusedIn(u8, u8, usize),
     Events(usize),
     Blank,
     Pack(Tables),
@@ -84,7 +105,9 @@ impl Answer {
 
     pub fn refusal(&self) -> Option<u8> {
         match self {
-            Answer::Refused(number) | Answer::RefusedAt(number, _) => Some(*number),
+            Answer::Refused(number)
+            | Answer::RefusedAt(number, _)
+            | Answer::RefusedIn(number, ..) => Some(*number),
             _ => None,
         }
     }
@@ -109,8 +132,13 @@ pub fn readable(bytes: &[u8]) -> String {
 impl Question<'_> {
     pub fn print(&self) -> String {
         let mut out = format!("{:?}, tables {:?}, slack {}", self.ask, self.lent, self.slack);
-        if self.ask == Ask::Key {
-            out += &format!("\n  type {}", readable(self.ty));
+        match self.ask {
+            Ask::Key => out += &format!("\n  type {}", readable(self.other)),
+            Ask::Merge => {
+                let (length, second) = (self.other.len(), readable(self.other));
+                out += &format!("\n  second log ({length} bytes) {second}");
+            }
+            _ => {}
         }
         out + &format!("\n  text ({} bytes) {}", self.text.len(), readable(self.text))
     }

@@ -2,9 +2,10 @@
 
 mod product;
 
-use differential::answer::{ASKS, Answer, Ask, Question};
+use differential::answer::{ASKED, ASKS, Answer, Ask, Question};
 use differential::expected::Oracle;
 use differential::minimise::minimised;
+use differential::pairs::Pair;
 use differential::{log, questions};
 use product::Product;
 use std::collections::BTreeMap;
@@ -16,9 +17,9 @@ use std::time::Instant;
 /// How many of the entry points' questions had each answer.
 #[derive(Default)]
 struct Counts {
-    asked: [u64; 6],
-    refused: BTreeMap<u8, [u64; 6]>,
-    blank: [u64; 6],
+    asked: [u64; ASKED],
+    refused: BTreeMap<u8, [u64; ASKED]>,
+    blank: [u64; ASKED],
     bytes: u64,
 }
 
@@ -35,8 +36,8 @@ impl Counts {
 
     fn print(&self) {
         println!("| | {} |", ASKS.join(" | "));
-        println!("|---|{}", "--:|".repeat(6));
-        let row = |name: &str, numbers: &[u64; 6]| {
+        println!("|---|{}", "--:|".repeat(ASKED));
+        let row = |name: &str, numbers: &[u64; ASKED]| {
             let words: Vec<String> = numbers.iter().map(u64::to_string).collect();
             println!("| {name} | {} |", words.join(" | "));
         };
@@ -53,7 +54,8 @@ impl Counts {
 
     /// Every number but 35, which no log can meet.
     fn missing(&self) -> Vec<u8> {
-        (1..=5).chain(10..=34).filter(|number| !self.refused.contains_key(number)).collect()
+        let all = (1..=5).chain(10..=34).chain(45..=47);
+        all.filter(|number| !self.refused.contains_key(number)).collect()
     }
 }
 
@@ -88,9 +90,12 @@ impl Run {
 
     fn one(&self, index: u64, product: &mut Product, counts: &mut Counts) -> bool {
         let (log, mut random) = log(self.seed, index);
-        counts.bytes += log.len() as u64;
+        let mut pair = Pair::new(self.seed, index);
+        counts.bytes += (log.len() + pair.first.len() + pair.second.len()) as u64;
         let mut oracle = Oracle::default();
-        for question in questions::about(&mut random, &log) {
+        let mut all = questions::about(&mut random, &log);
+        all.extend(pair.questions());
+        for question in all {
             let ask = question.ask.index();
             if self.skip.contains(&ask) {
                 continue;
@@ -116,11 +121,13 @@ impl Run {
             !self.skip.contains(&question.ask.index())
                 && Product::new().answer(question, room) != answer
         };
-        let all = questions::about(&mut random, &log);
+        let mut pair = Pair::new(self.seed, index);
+        let mut all = questions::about(&mut random, &log);
+        all.extend(pair.questions());
         let question =
             all.iter().find(|question| differs(question)).expect("a log with a difference");
-        let (text, ty) = minimised(question, &differs);
-        let small = Question { text: &text, ty: &ty, ..*question };
+        let (text, other) = minimised(question, &differs);
+        let small = Question { text: &text, other: &other, ..*question };
         let (answer, room) = Oracle::default().answer(&small);
         println!("difference, seed {}, log {index}: {}", self.seed, small.print());
         if small.ask != Ask::Judge && small.ask != Ask::Read {
@@ -142,7 +149,7 @@ impl Run {
         let asked: u64 = total.asked.iter().sum();
         let seconds = self.started.elapsed().as_secs();
         println!(
-            "seed {}: {} logs, {} bytes, {asked} questions, {seconds} s",
+            "seed {}: {} logs and as many pairs of logs, {} bytes, {asked} questions, {seconds} s",
             self.seed, self.count, total.bytes
         );
         self.skip.iter().for_each(|index| println!("left out: {}", ASKS[*index]));
@@ -173,7 +180,7 @@ fn main() {
     let threads = std::env::var("THREADS").map_or(1, |word| number(&word)).clamp(1, 2);
     let skipped = std::env::var("SKIP").unwrap_or_default();
     let skip: Vec<usize> =
-        (0..6).filter(|index| skipped.split(',').any(|name| name == ASKS[*index])).collect();
+        (0..ASKED).filter(|index| skipped.split(',').any(|name| name == ASKS[*index])).collect();
     let run = Run {
         seed,
         count,

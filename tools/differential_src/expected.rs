@@ -1,9 +1,9 @@
 //! The oracle's answers, with what 01 adds about tables and outputs.
 
-use crate::answer::{Answer, Ask, Lent, Question, Tables};
+use crate::answer::{Answer, Ask, Question, Tables};
 use oracle::pack::Pack;
 use oracle::value::Event;
-use oracle::{answers, limits, listing};
+use oracle::{answers, limits, listing, merge};
 
 type Line<'a> = Result<Option<(&'a str, Event)>, u8>;
 
@@ -19,19 +19,14 @@ impl<'a> Oracle<'a> {
         let answer = self.without_room(question);
         let room = (answer.length() as i64 + question.slack as i64).max(0) as usize;
         if answer.length() > room {
-            return (Answer::Refused(5), room);
+            return (refused(question.ask, 5), room);
         }
         (answer, room)
     }
 
     fn without_room(&mut self, question: &Question<'a>) -> Answer {
-        let short = !matches!(question.lent, Lent::Longer | Lent::Exact);
-        if short && question.ask.has_tables() {
-            return if question.ask == Ask::Judge {
-                Answer::RefusedAt(1, 0)
-            } else {
-                Answer::Refused(1)
-            };
+        if !question.lent.is_enough() && question.ask.has_tables() {
+            return refused(question.ask, 1);
         }
         let text = question.text;
         match question.ask {
@@ -53,8 +48,12 @@ impl<'a> Oracle<'a> {
             }
             Ask::Decode => answers::decoded(text)
                 .map_or_else(Answer::Refused, |text| Answer::Text(text.into_bytes())),
-            Ask::Key => answers::stored_key(question.ty, text)
+            Ask::Key => answers::stored_key(question.other, text)
                 .map_or_else(Answer::Refused, |key| Answer::Text(key.into_bytes())),
+            Ask::Merge => match merge::logs(text, question.other, usize::MAX) {
+                Ok(merged) => Answer::Text(merged.into_bytes()),
+                Err((number, log, line)) => Answer::RefusedIn(number, log, line),
+            },
         }
     }
 
@@ -70,5 +69,14 @@ impl<'a> Oracle<'a> {
             Ok(None) => Answer::Blank,
             Err(number) => Answer::Refused(*number),
         }
+    }
+}
+
+/// A refusal that speaks of no text.
+fn refused(ask: Ask, number: u8) -> Answer {
+    match ask {
+        Ask::Judge => Answer::RefusedAt(number, 0),
+        Ask::Merge => Answer::RefusedIn(number, 0, 0),
+        _ => Answer::Refused(number),
     }
 }

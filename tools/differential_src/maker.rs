@@ -11,7 +11,7 @@ pub struct Maker {
     /// How often whitespace stands where it may: once in so many places.
     spaces: usize,
     /// No word that upsets the reading of what follows: most lines are then read.
-    tame: bool,
+    pub(crate) tame: bool,
 }
 
 /// Both ends of every range that `escape_debug` writes as numbers, and their neighbours.
@@ -69,7 +69,7 @@ impl Maker {
     }
 
     /// U+FEFF in front, sometimes.
-    fn marked(&mut self, log: Vec<u8>) -> Vec<u8> {
+    pub(crate) fn marked(&mut self, log: Vec<u8>) -> Vec<u8> {
         let mark = match self.random.below(60) {
             0..=4 => "\u{feff}",
             5 => "\u{feff}\u{feff}",
@@ -98,7 +98,7 @@ impl Maker {
         log
     }
 
-    fn any_line(&mut self) -> String {
+    pub(crate) fn any_line(&mut self) -> String {
         let kinds = if self.tame { 50 } else { 20 };
         match self.random.below(kinds) {
             0..=1 => self.vector_line(),
@@ -232,7 +232,7 @@ impl Maker {
         }
     }
 
-    fn spaced(&mut self, text: &str) -> String {
+    pub(crate) fn spaced(&mut self, text: &str) -> String {
         format!("{}{text}{}", self.space(), self.space())
     }
 
@@ -464,7 +464,7 @@ impl Maker {
         format!("{}::{action}{}::{}", parts.join("::"), self.space(), self.spaced(&kind))
     }
 
-    fn line(&mut self) -> String {
+    pub(crate) fn line(&mut self) -> String {
         let time = if self.random.once_in(if self.tame { 30 } else { 6 }) {
             *self.random.pick(&TIMES)
         } else {
@@ -645,7 +645,7 @@ impl Maker {
         log
     }
 
-    fn damage_bytes(&mut self, log: &mut Vec<u8>) {
+    pub(crate) fn damage_bytes(&mut self, log: &mut Vec<u8>) {
         if log.is_empty() {
             return;
         }

@@ -8,17 +8,19 @@ const LONGEST: Duration = Duration::from_secs(60);
 /// Stretches so short are tried at every place: a character of several bytes goes as one.
 const SHORT: usize = 8;
 
-/// The text, and of a key the type, that are left.
+/// The text, and of a key the type, of two logs the second, that are left.
 pub fn minimised(question: &Question, differs: &dyn Fn(&Question) -> bool) -> (Vec<u8>, Vec<u8>) {
     let end = Instant::now() + LONGEST;
-    let lines: Vec<Vec<u8>> =
-        question.text.split_inclusive(|b| *b == b'\n').map(<[u8]>::to_vec).collect();
-    let with = |text: &[u8]| differs(&Question { text, ..*question });
-    let lines = smallest(lines, &|lines| with(&lines.concat()), end);
-    let text = smallest(lines.concat(), &|text| with(text), end);
-    let with_type = |ty: &[u8]| differs(&Question { text: &text, ty, ..*question });
-    let ty = smallest(question.ty.to_vec(), &|ty| with_type(ty), end);
-    (text, ty)
+    let text = smallest_text(question.text, &|text| differs(&Question { text, ..*question }), end);
+    let with = |other: &[u8]| differs(&Question { text: &text, other, ..*question });
+    let other = smallest_text(question.other, &with, end);
+    (text, other)
+}
+
+fn smallest_text(text: &[u8], differs: &dyn Fn(&[u8]) -> bool, end: Instant) -> Vec<u8> {
+    let lines: Vec<Vec<u8>> = text.split_inclusive(|b| *b == b'\n').map(<[u8]>::to_vec).collect();
+    let lines = smallest(lines, &|lines| differs(&lines.concat()), end);
+    smallest(lines.concat(), differs, end)
 }
 
 /// Removes stretches, long ones first, until none can go.

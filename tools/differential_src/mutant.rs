@@ -284,6 +284,37 @@ mutants! {
     ListResourceFirst "resource prints before principal"
     ListParentsSorted "parents print sorted"
     ListStringPlain "strings print without s"
+    MergeTiesSecond "at equal times the second log's lines come first"
+    MergeUnsigned "times are compared without a sign"
+    MergeMagnitude "times are compared by their magnitude"
+    MergeAsWritten "lines are merged in the order of their texts"
+    MergeBehind "the second log is put behind the first"
+    MergeUntrimmed "merged lines are not trimmed"
+    MergeTrimStart "merged lines are trimmed in front alone"
+    MergeTrimAscii "merged lines are trimmed of ASCII alone"
+    MergeTailDropped "text behind the last ) is not merged"
+    MergeKeepsBlank "blank lines are merged too"
+    MergeKeepsMark "U+FEFF is merged too"
+    MergeDistinct "of equal lines that meet one is merged"
+    MergeReturns "merged lines end with a carriage return"
+    MergeNoLastFeed "the last merged line has no line feed"
+    MergeFallOnEqual "equal times fall"
+    MergeFallBetween "times fall between the logs"
+    MergeFallBefore "a fall has the line before it"
+    MergeFallEvents "a fall's line counts events alone"
+    MergeLastFall "the last fall is given"
+    MergeFallFirst "45 and 46 come where they are met"
+    MergeFallEarly "45 comes before the second log's refusals"
+    MergeSecondFallFirst "46 comes before 45"
+    MergeSecondRefused "the second log's refusals come first"
+    MergeTextsFirst "2 and 3 of either log come first"
+    MergeTextUnnamed "2 and 3 name no log"
+    MergeTablesLate "1 comes behind the refusals of the logs"
+    MergeLimitLow "a merged log of 65,536 bytes is refused"
+    MergeLimitHigh "a merged log of 65,537 bytes is taken"
+    MergeLimitBeforeFalls "47 comes before 45 and 46"
+    MergeOutputBeforeFalls "5 comes before 45 and 46"
+    MergeOutputBeforeLimit "5 comes before 47"
 }
 
 /// Characters that are no White_Space and look it.
@@ -322,7 +353,7 @@ pub fn all() -> Vec<(Mutant, String)> {
     for ranges in [oracle::ranges::anywhere(), oracle::ranges::first_only()] {
         out.extend(at_ranges(&ranges));
     }
-    for number in (1..5).chain([5]).chain(10..35) {
+    for number in (1..5).chain([5]).chain(10..35).chain(45..47) {
         let next = if number == 5 { 10 } else { number + 1 };
         out.push((Mutant::Swapped(number, next), format!("refusals {number} and {next} swapped")));
     }

@@ -5,6 +5,7 @@ use differential::answer::{ASKS, Question};
 use differential::expected::Oracle;
 use differential::minimise::minimised;
 use differential::mutant::{self, Mutant};
+use differential::pairs::Pair;
 use differential::reader::Reader;
 use differential::{log, questions};
 use std::process::exit;
@@ -23,8 +24,8 @@ fn differs(reader: &Reader, question: &Question) -> bool {
 
 /// The unmutated reader must not differ.
 fn stop(seed: u64, index: u64, reader: &Reader, question: &Question) -> ! {
-    let (text, ty) = minimised(question, &|question| differs(reader, question));
-    let small = Question { text: &text, ty: &ty, ..*question };
+    let (text, other) = minimised(question, &|question| differs(reader, question));
+    let small = Question { text: &text, other: &other, ..*question };
     let (answer, room) = Oracle::default().answer(&small);
     println!("the second reader differs, seed {seed}, log {index}: {}", small.print());
     println!("oracle: {}", answer.print());
@@ -32,11 +33,13 @@ fn stop(seed: u64, index: u64, reader: &Reader, question: &Question) -> ! {
     exit(1);
 }
 
-/// Asks the readers about one log: how many questions it gives.
+/// Asks the readers about one log and one pair of logs: how many questions they give.
 fn ask(seed: u64, index: u64, honest: &Reader, candidates: &mut [Candidate]) -> usize {
     let (log, mut random) = log(seed, index);
     let mut oracle = Oracle::default();
-    let questions = questions::about(&mut random, &log);
+    let mut pair = Pair::new(seed, index);
+    let mut questions = questions::about(&mut random, &log);
+    questions.extend(pair.questions());
     for question in &questions {
         let (answer, room) = oracle.answer(question);
         if honest.answer(question, room) != answer {

@@ -17,6 +17,10 @@ mod c {
             kinds: *mut u8, kinds_len: usize, numbers: *mut u64, numbers_len: usize, texts: *mut u8, texts_len: usize,
             out: *mut u8, out_len: usize, line: *const u8, line_len: usize, number: u64,
         ) -> u64;
+        pub fn lulzhemor_merge(
+            kinds: *mut u8, kinds_len: usize, numbers: *mut u64, numbers_len: usize, texts: *mut u8, texts_len: usize,
+            out: *mut u8, out_len: usize, first: *const u8, first_len: usize, second: *const u8, second_len: usize,
+        ) -> u64;
         pub fn lulzhemor_cut_body(out: *mut u64, out_len: usize, body: *const u8, body_len: usize) -> u64;
         pub fn lulzhemor_decode(out: *mut u8, out_len: usize, text: *const u8, text_len: usize) -> u64;
         pub fn lulzhemor_spell_key(
@@ -81,7 +85,7 @@ impl Product {
                 unsafe { c::lulzhemor_decode(out, len, text.as_ptr(), text.len()) }
             }),
             Ask::Key => self.text_answer(room, |out, len| {
-                let ty = question.ty;
+                let ty = question.other;
                 // SAFETY: all slices are borrowed for the call.
                 unsafe {
                     c::lulzhemor_spell_key(
@@ -94,7 +98,7 @@ impl Product {
                     )
                 }
             }),
-            Ask::Judge | Ask::Read | Ask::List(_) => self.with_tables(question, room),
+            Ask::Judge | Ask::Read | Ask::List(_) | Ask::Merge => self.with_tables(question, room),
         }
     }
 
@@ -135,17 +139,21 @@ impl Product {
         let answer = match question.ask {
             Ask::Judge if code < REFUSED => Answer::Events(code as usize),
             Ask::Judge => Answer::RefusedAt((code & 255) as u8, ((code - REFUSED) >> 8) as usize),
+            Ask::Merge if code >= REFUSED => refused_in(code),
+            Ask::Merge => self.text_of(code, room),
             _ if code >= REFUSED => refused(code),
             _ if code == 0 => Answer::Blank,
             Ask::Read => self.pack_of(code),
             _ => self.text_of(code, room),
         };
         let unwritten = code == 0 || code >= REFUSED;
-        if matches!(question.ask, Ask::List(_)) && unwritten && !all_old(&self.out) {
+        if matches!(question.ask, Ask::List(_) | Ask::Merge) && unwritten && !all_old(&self.out) {
             return Answer::Broken(format!("answer {code:#x}: the output is changed"));
         }
         let left = match &answer {
-            Answer::RefusedAt(1, _) | Answer::Refused(1) => Left::Unchanged,
+            Answer::RefusedAt(1, _) | Answer::RefusedIn(1, ..) | Answer::Refused(1) => {
+                Left::Unchanged
+            }
             Answer::Pack(tables) => Left::Pack(tables),
             _ => Left::Zeros,
         };
@@ -163,6 +171,7 @@ impl Product {
             Lent::ShortKinds => (NODES - 1, NODES + 9, TEXTS),
             Lent::ShortNumbers => (NODES, NODES - 1, TEXTS + 5),
             Lent::ShortTexts => (NODES + 1, NODES, TEXTS - 1),
+            Lent::Any([k, n, t]) => (k, n, t),
         };
         let (kinds, numbers, texts) = (self.kinds.as_mut_ptr(), self.numbers.as_mut_ptr(), self.texts.as_mut_ptr());
         let (text, len) = (question.text.as_ptr(), question.text.len());
@@ -174,6 +183,12 @@ impl Product {
                 self.out.resize(room + BEHIND, OLD);
                 let out = self.out.as_mut_ptr();
                 unsafe { c::lulzhemor_list_line(kinds, k, numbers, n, texts, t, out, room, text, len, number) }
+            }
+            Ask::Merge => {
+                self.out.clear();
+                self.out.resize(room + BEHIND, OLD);
+                let (out, other, size) = (self.out.as_mut_ptr(), question.other.as_ptr(), question.other.len());
+                unsafe { c::lulzhemor_merge(kinds, k, numbers, n, texts, t, out, room, text, len, other, size) }
             }
             _ => unsafe { c::lulzhemor_read_line(kinds, k, numbers, n, texts, t, text, len) },
         }
@@ -222,6 +237,15 @@ impl Product {
 fn refused(code: u64) -> Answer {
     match u8::try_from(code - REFUSED) {
         Ok(number) => Answer::Refused(number),
+        Err(_) => Answer::Broken(format!("answer {code:#x}")),
+    }
+}
+
+/// 256 times the line and 2^26 times the log stand beside the number.
+fn refused_in(code: u64) -> Answer {
+    let (number, rest) = (code as u8, (code - REFUSED) >> 8);
+    match u8::try_from(rest >> 18) {
+        Ok(log) => Answer::RefusedIn(number, log, (rest & 0x3_ffff) as usize),
         Err(_) => Answer::Broken(format!("answer {code:#x}")),
     }
 }

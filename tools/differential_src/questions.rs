@@ -25,8 +25,8 @@ fn slack(random: &mut Random) -> i32 {
     *random.pick(&[0, 0, 0, 9, 9, 1, -1, -1, NO_ROOM])
 }
 
-fn question<'a>(random: &mut Random, ask: Ask, text: &'a [u8]) -> Question<'a> {
-    Question { ask, text, ty: b"", lent: lent(random, text), slack: slack(random) }
+pub fn question<'a>(random: &mut Random, ask: Ask, text: &'a [u8]) -> Question<'a> {
+    Question { ask, text, other: b"", lent: lent(random, text), slack: slack(random) }
 }
 
 pub fn about<'a>(random: &mut Random, log: &'a [u8]) -> Vec<Question<'a>> {
@@ -50,8 +50,8 @@ pub fn about<'a>(random: &mut Random, log: &'a [u8]) -> Vec<Question<'a>> {
     for _ in 0..DRAWN {
         let text = drawn(random, log);
         let ask = *random.pick(&[Ask::Cut, Ask::Decode, Ask::Key]);
-        let ty = if ask == Ask::Key { drawn(random, log) } else { b"" };
-        out.push(Question { ty, ..question(random, ask, text) });
+        let other = if ask == Ask::Key { drawn(random, log) } else { b"" };
+        out.push(Question { other, ..question(random, ask, text) });
     }
     // Judging drops U+FEFF, reading a line does not.
     if let Some(line) = lines[0].strip_prefix("\u{feff}".as_bytes()) {
@@ -65,14 +65,14 @@ pub fn about<'a>(random: &mut Random, log: &'a [u8]) -> Vec<Question<'a>> {
 }
 
 /// Is a table or the output too short for the answer?
-fn is_short(question: &Question) -> bool {
-    let tables = !matches!(question.lent, Lent::Longer | Lent::Exact);
+pub fn is_short(question: &Question) -> bool {
+    let tables = !question.lent.is_enough();
     let has_output = !matches!(question.ask, Ask::Judge | Ask::Read);
     tables && question.ask.has_tables() || has_output && question.slack < 0
 }
 
 /// The same, with all that the answer needs.
-fn fitting<'a>(question: &Question<'a>) -> Question<'a> {
+pub fn fitting<'a>(question: &Question<'a>) -> Question<'a> {
     Question { lent: Lent::Exact, slack: 0, ..*question }
 }
 

@@ -140,6 +140,12 @@ pub const BYTES: [&[u8]; 24] = [
     b"\xe0\xa0\x80", b"\xed\x9f\xbf", b"\xee\x80\x80", b"\xf0\x90\x80\x80", b"\xf4\x8f\xbf\xbf", b"\xef\xbf\xbf",
 ];
 
+/// What stands behind an event, in lines that are to be merged, and their ends.
+pub const TAILS: [&str; 10] = ["", "", "", "", " tail", "x", "\u{200b}", "\u{feff}", " \u{1c}", "(] \u{3000}y"];
+pub const PAIR_ENDS: [&str; 12] = [
+    "\n", "\n", "\n", "\n", "\n", "\r\n", "\n\n", "\n \r\n", "\n\u{3000}\n", "\u{85}\n", "\u{2003}\n\t", "\n\n\n",
+];
+
 pub const LINE_ENDS: [&str; 16] = [
     "\n", "\n", "\n", "\n", "\r\n", "\r\n", "\n\n", "\n \r\n", "\n\u{3000}\n", "\r", "\u{2028}", "\u{85}", "\u{b}", "\n\u{feff}", "\n\u{200b}\n",
     "\n\t\n\n",

@@ -4,7 +4,7 @@ use crate::pieces::pieces;
 use std::collections::{BTreeMap, BTreeSet};
 
 /// What a replaying program's buffers must hold.
-pub const LONGEST: usize = 70_000;
+pub const LONGEST: usize = 140_000;
 /// What a vector file may reach.
 const LARGEST: usize = 1_000_000;
 /// A length from here on is that of a text in pieces, plus this.

@@ -13,8 +13,9 @@ const ESCAPES: u8 = 4;
 const VALUES: u8 = 5;
 const LINES: u8 = 6;
 const LISTINGS: u8 = 8;
+const MERGES: u8 = 9;
 /// How many ops the groups have, from 1 on.
-const OPS: [u8; 8] = [4, 2, 7, 4, 1, 5, 5, 5];
+const OPS: [u8; 9] = [4, 2, 7, 4, 1, 5, 5, 5, 5];
 
 /// Kinds, numbers, texts; and the output.
 const TABLES: [u8; 3] = [1, 2, 3];
@@ -121,7 +122,7 @@ fn looks(group: u8, case: &Case) -> Vec<u8> {
             looks.extend(TABLES);
         }
     }
-    if matches!((group, case.op), (CUTS, 1 | 7) | (ESCAPES | LISTINGS, _)) {
+    if matches!((group, case.op), (CUTS, 1 | 7) | (ESCAPES | LISTINGS | MERGES, _)) {
         looks.push(OUTPUT + LENT);
     }
     if (group, case.op) == (CUTS, 1) && !case.answer.is_empty() {

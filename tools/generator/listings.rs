@@ -5,6 +5,7 @@ use crate::cases::Cases;
 use crate::grammar::Grammar;
 use crate::hand::Hand;
 use crate::lines::{HEAD, filled, random_line, sizes};
+use crate::merges;
 use oracle::limits::{LINE, TEXT};
 use oracle::{limits, listing};
 
@@ -23,6 +24,9 @@ pub fn make(cases: &mut Cases, hand: &Hand) {
         three_outputs(cases, number, line);
     }
     for (line, number) in sizes().iter().chain(&sorted()).zip(NUMBERS.into_iter().cycle()) {
+        three_outputs(cases, number, line.as_bytes());
+    }
+    for (line, number) in merges::results().iter().flat_map(|log| log.lines()).zip(1..) {
         three_outputs(cases, number, line.as_bytes());
     }
     values(cases, hand);

@@ -4,6 +4,7 @@ use crate::cases::Cases;
 use crate::grammar::Grammar;
 use crate::hand::Hand;
 use crate::lines::{HEAD, filled, random_line};
+use crate::merges;
 use oracle::limits::{self, LINE, TEXT};
 
 const ENDS: [&str; 10] =
@@ -19,6 +20,7 @@ pub fn make(cases: &mut Cases, hand: &Hand) {
         // A refusal's line, and that later lines are not waved through.
         add(cases, &[b"@0 ::\"\"::k()\r\n\n", &line[..], b"\nx"].concat());
     }
+    merges::results().iter().for_each(|log| add(cases, log.as_bytes()));
     sizes(cases);
     depths(cases);
     bad_utf8(cases);

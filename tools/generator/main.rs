@@ -11,6 +11,7 @@ mod hand;
 mod lines;
 mod listings;
 mod logs;
+mod merges;
 mod nights;
 mod numbers;
 mod pieces;
@@ -25,7 +26,7 @@ use std::process::exit;
 type Maker = fn(&mut Cases, &Hand);
 
 /// Each with its group's number in the program `vectors`, which does not ask the last.
-const FILES: [(&str, u8, Maker); 9] = [
+const FILES: [(&str, u8, Maker); 10] = [
     ("chars", 1, chars::make),
     ("escapes", 4, escapes::make),
     ("cuts", 3, cuts::make),
@@ -34,6 +35,7 @@ const FILES: [(&str, u8, Maker); 9] = [
     ("lines", 6, lines::make),
     ("logs", 7, logs::make),
     ("listings", 8, listings::make),
+    ("merges", 9, merges::make),
     ("nights", 0, nights::make),
 ];
 

@@ -43,7 +43,7 @@ use Rattle.logs.specs.Lines.{linesOf, marked, unmarked, Walked, behind, stopped
 use Rattle.logs.specs.Judge.{counted, countLine, judgedBy, judgeLog}
 use Rattle.logs.specs.declared.Judged.{Judged}
 use Rattle.logs.specs.declared.Judged.the-variants as judging
-use Rattle.merging.specs.Time.{rank, fallAt, fallFrom, fallIn}
+use Rattle.event_lines.specs.Time.{rank, fallAt, fallFrom, fallIn}
 use Rattle.merging.specs.Merge.{mergedText, unlessRefused, unlessFalls, written, mergeLogs}
 use Rattle.merging.specs.declared.Merged.{Merged}
 use Rattle.merging.specs.declared.Merged.the-variants as merging

@@ -10,7 +10,7 @@ use lib.ListN.{take}
 use Rattle.buffers.proofs.Choice.{by-cond}
 use Rattle.events.specs.Answer.{Answer, event, blank, refused, lineAnswer}
 use Rattle.logs.specs.Events.{gather}
-use Rattle.merging.specs.Time.{rank, fallAt, fallFrom, fallIn}
+use Rattle.event_lines.specs.Time.{rank, fallAt, fallFrom, fallIn}
 use Rattle.guarantees.specs.Lines.{logLines}
 use Rattle.guarantees.specs.Merging.{Rises}
 use Rattle.guarantees.proofs.MergeOrder.{lines-rise}

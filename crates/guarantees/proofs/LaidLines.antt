@@ -26,8 +26,8 @@ use Rattle.events.specs.Answer.{Answer, event, blank, refused, eventOf, lineAns
 use Rattle.logs.specs.Lines.{linesOf, marked, unmarked, behind, onward, walkFrom}
 use Rattle.logs.specs.Judge.{counted, countLine}
 use Rattle.logs.specs.Events.{EventLine, gathered, gather, eventsIn}
-use Rattle.merging.specs.Merge.{laid, texts}
-use Rattle.merging.proofs.Falls.{time-read, parsed-time}
+use Rattle.event_lines.specs.Laid.{laid, texts}
+use Rattle.event_lines.proofs.Falls.{time-read, parsed-time}
 use Rattle.guarantees.specs.Lines.{Within, logLines}
 use Rattle.guarantees.proofs.LineTexts.{line-within, read-within}
 use Rattle.guarantees.proofs.TrimmedTexts.{Feedless, utf8-trim, lines-feedless, trim-feedless}

@@ -23,8 +23,9 @@ use Rattle.events.specs.Answer.{lineAnswer}
 use Rattle.logs.specs.Lines.{linesOf, marked, unmarked, walkFrom}
 use Rattle.logs.specs.Judge.{judgeLog}
 use Rattle.logs.specs.Events.{gather}
-use Rattle.merging.specs.Time.{fallFrom}
-use Rattle.merging.specs.Merge.{mergedLines, laid, mergedText, mergeLogs}
+use Rattle.event_lines.specs.Time.{fallFrom}
+use Rattle.event_lines.specs.Laid.{laid}
+use Rattle.merging.specs.Merge.{mergedLines, mergedText, mergeLogs}
 use Rattle.merging.specs.declared.Merged.the-variants.{Written, Refused}
 
 -- two lines of which the second is earlier, and a blank line between them

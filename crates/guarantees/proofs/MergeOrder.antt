@@ -18,9 +18,9 @@ use Rattle.sorting.proofs.Sorted.{sort-permutes, sort-ascends, sort-fixed, sort
 use Rattle.sorting.proofs.MergeLaws.{merge-end, merge-left, merge-right, merge-sorted}
 use Rattle.events.specs.Answer.{Answer, event, blank, refused, lineAnswer}
 use Rattle.logs.specs.Events.{EventLine, gathered, gather, eventsIn}
-use Rattle.merging.specs.Time.{rank, timeKey, fallFrom, fallIn}
+use Rattle.event_lines.specs.Time.{rank, timeKey, fallFrom, fallIn}
 use Rattle.merging.specs.Merge.{mergedLines}
-use Rattle.merging.proofs.Falls.{precedes-one, no-fall-ascends, ascends-no-fall, none-below, log-ascends, time-small}
+use Rattle.event_lines.proofs.Falls.{precedes-one, no-fall-ascends, ascends-no-fall, none-below, log-ascends, time-small}
 use Rattle.guarantees.specs.Merging.{timeOf, Rises, Subsequence}
 
 -- ---- ranks and integers

@@ -18,10 +18,11 @@ use Rattle.logs.specs.Judge.{countLine, judgeLog}
 use Rattle.logs.specs.Events.{EventLine, gather, eventsIn}
 use Rattle.logs.specs.declared.Judged.{Judged}
 use Rattle.logs.specs.declared.Judged.the-variants as Judged
-use Rattle.merging.specs.Time.{timeKey, fallFrom, fallIn}
-use Rattle.merging.specs.Merge.{mergedLines, laid, texts, mergedText, unlessRefused, unlessFalls, mergeLogs}
+use Rattle.event_lines.specs.Time.{timeKey, fallFrom, fallIn}
+use Rattle.event_lines.specs.Laid.{laid, texts}
+use Rattle.merging.specs.Merge.{mergedLines, mergedText, unlessRefused, unlessFalls, mergeLogs}
 use Rattle.merging.specs.declared.Merged.the-variants.{Written, Refused}
-use Rattle.merging.proofs.Falls.{log-no-fall}
+use Rattle.event_lines.proofs.Falls.{log-no-fall}
 use Rattle.guarantees.specs.Lines.{Within, logLines}
 use Rattle.guarantees.specs.Merging.{Mergeable, ReadsAs, Stays}
 use Rattle.guarantees.proofs.Judged.{accepted-within, log-walked}

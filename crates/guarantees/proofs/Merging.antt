@@ -12,7 +12,7 @@ use Rattle.sorting.specs.Order.{ofKey}
 use Rattle.sorting.proofs.Sorted.{sort-permutes}
 use Rattle.events.specs.Answer.{lineAnswer}
 use Rattle.logs.specs.Events.{gather, eventsIn}
-use Rattle.merging.specs.Time.{rank, timeKey, fallIn}
+use Rattle.event_lines.specs.Time.{rank, timeKey, fallIn}
 use Rattle.merging.specs.Merge.{mergedLines, mergedText, mergeLogs}
 use Rattle.merging.specs.declared.Merged.the-variants.{Written}
 use Rattle.guarantees.specs.Lines.{logLines}

@@ -14,8 +14,9 @@ use Rattle.events.specs.Answer.{event, readLine}
 use Rattle.logs.specs.Judge.{judgeLog}
 use Rattle.logs.specs.Events.{EventLine, eventsIn}
 use Rattle.logs.specs.declared.Judged.the-variants.{Accepted}
-use Rattle.merging.specs.Time.{fallIn}
-use Rattle.merging.specs.Merge.{texts, mergedText, mergeLogs}
+use Rattle.event_lines.specs.Time.{fallIn}
+use Rattle.event_lines.specs.Laid.{texts}
+use Rattle.merging.specs.Merge.{mergedText, mergeLogs}
 use Rattle.merging.specs.declared.Merged.the-variants.{Written}
 use Rattle.guarantees.specs.Lines.{logLines}
 

@@ -2,7 +2,7 @@
 // expects another value than it should. `wrong` says which look: 0 none, else the number of a table for its cleared entries,
 // four more for its entries that are as they were lent, or what stands below.
 
-pub const GROUP: usize = 9;
+pub const GROUP: usize = 10;
 
 pub const KINDS: usize = 1;
 

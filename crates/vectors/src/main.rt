@@ -12,6 +12,7 @@ mod lines_cases;
 mod listings_cases;
 mod little;
 mod logs_cases;
+mod merges_cases;
 mod numbers_cases;
 mod packs;
 mod values_cases;
@@ -23,7 +24,7 @@ use crate::packs::Lent;
 use libc::STDOUT_FILENO;
 
 // A text of a case, and its buffer's length.
-const LONGEST: usize = 70_000;
+const LONGEST: usize = 140_000;
 
 // How many cases were read, how many answers differ, and the last case that does, counted from one.
 pub struct Tally {
@@ -50,6 +51,7 @@ fn asked(group: usize, op: usize, input: &[u8], answer: &[u8], wrong: usize) -> 
         6 => Lent::has(op) & lines_cases::agrees(Lent::by_op(op), input, answer, wrong),
         7 => Lent::has(op) & logs_cases::agrees(Lent::by_op(op), input, answer, wrong),
         8 => Lent::has(op) & listings_cases::agrees(Lent::by_op(op), input, answer, wrong),
+        9 => Lent::has(op) & merges_cases::agrees(Lent::by_op(op), input, answer, wrong),
         _ => false,
     }
 }
