@@ -12,6 +12,7 @@ mod tester;
 
 use logs::{EXAMPLE, LINE, LOG, Random, crowded, is_listed, log_of, sketched, wide_log, widest};
 use std::fs;
+use std::os::unix::fs::PermissionsExt;
 use std::path::Path;
 use std::process::exit;
 use std::time::Duration;
@@ -192,6 +193,7 @@ fn main() {
     let stored = fs::read(nights).expect("the night listings");
     let scratch = std::env::temp_dir().join(format!("robustness-{}", std::process::id()));
     fs::create_dir_all(&scratch).expect("create_dir_all");
+    fs::set_permissions(&scratch, fs::Permissions::from_mode(0o755)).expect("set_permissions");
     let listed = tested(lister, &scratch, |t| listings(t, &text, &stored));
     let merged = tested(merger, &scratch, |t| merges::all(t, &text));
     fs::remove_dir_all(&scratch).expect("remove_dir_all");
