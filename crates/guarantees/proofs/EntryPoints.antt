@@ -32,6 +32,10 @@ use Rattle.log_listing.specs.Stretch.{pieceAt, Written, Onward}
 use Rattle.log_listing.proofs.next_stretch
 use Rattle.log_listing.proofs.next_stretch.Met as NextStretch
 use Rattle.log_listing.proofs.next_stretch.Symbol as NextStretchCode
+use Rattle.merging.specs.Merge as Merge
+use Rattle.merging.proofs.merge
+use Rattle.merging.proofs.merge.Met as MergeLogs
+use Rattle.merging.proofs.merge.Symbol as MergeCode
 use Rattle.guarantees.specs.Promised.{Promised, PromisedBoth}
 
 -- 1. Decode escapes: `decode(out, text)`. The answer is what `decoded` says of the text and the output's length; the whole output is then
@@ -75,3 +79,10 @@ pub next-stretch-promised : {M : Type 1} → PromisedBoth next_stretch.ended Nex
     (λ κs a r s. Written (pieceAt (now (a .1 .1 .1 .1 .1 .1 .1 .1 .0)) (a .1 .1 .1 .1 .1 .1 .1 .1 .1 .0)) (now (a .1 .1 .1 .1 .1 .1 .1 .0)) r (now (s .1 .1 .1 .1 .1 .1 .1 .0)))
     (λ κs a r s. Onward (now (a .1 .1 .1 .1 .1 .1 .1 .1 .0)) (a .1 .1 .1 .1 .1 .1 .1 .1 .1 .0) r (now (s .1 .1 .1 .1 .1 .1 .1 .0)))
 next-stretch-promised = NextStretch.met
+
+-- 8. Merge two logs: `merge(kinds, numbers, texts, out, first, second)`. `Whole` of merging gives the answer, every entry of the three
+-- tables and every byte of the output.
+pub merge-promised : {M : Type 1} → Promised merge.ended MergeCode.routine M (λ κs a r s.
+    Merge.Whole (now (a .1 .1 .1 .1 .0)) (now (a .1 .1 .1 .1 .1 .0)) (now (a .0)) (now (a .1 .0)) (now (a .1 .1 .0)) (now (a .1 .1 .1 .0)) r
+    (now (s .0)) (now (s .1 .0)) (now (s .1 .1 .0)) (now (s .1 .1 .1 .0)))
+merge-promised = MergeLogs.met

@@ -9,7 +9,7 @@ use lib.Dec.{leb}
 use lib.ListN.{length, length-append}
 use borrow.Author.Tests.{leb-true, le-leb}
 use Rattle.format.specs.Limits.{textLimit}
-use Rattle.format.specs.Refusals.{outputTooShort, timesFallInFirst, timesFallInSecond, mergedTooLong}
+use Rattle.format.specs.Refusals.{tableTooShort, outputTooShort, timesFallInFirst, timesFallInSecond, mergedTooLong}
 use Rattle.chars.specs.Utf8.{utf8From}
 use Rattle.sorting.specs.Order.{Each, Ascends}
 use Rattle.sorting.proofs.Sorted.{sort-length, sort-fixed}
@@ -21,6 +21,7 @@ use Rattle.logs.specs.declared.Judged.the-variants as Judged
 use Rattle.event_lines.specs.Time.{timeKey, fallFrom, fallIn}
 use Rattle.event_lines.specs.Laid.{laid, texts}
 use Rattle.merging.specs.Merge.{mergedLines, mergedText, unlessRefused, unlessFalls, mergeLogs}
+use Rattle.merging.specs.declared.Merged.{Merged}
 use Rattle.merging.specs.declared.Merged.the-variants.{Written, Refused}
 use Rattle.event_lines.proofs.Falls.{log-no-fall}
 use Rattle.guarantees.specs.Lines.{Within, logLines}
@@ -30,6 +31,11 @@ use Rattle.guarantees.proofs.MergeOrder.{each-merged, merged-ascends}
 use Rattle.guarantees.proofs.LaidLines.{Sound, log-sound, laid-encoded, laid-lines, laid-answers, laid-events, walk-counts, walk-counted}
 
 -- ---- the answer
+
+-- bytes are written only where the tables are long enough
+pub answer-written : (b : Bool) (r : Merged) (k : ℕ) → Written k ≡ cond b r (Refused tableTooShort 0 0) → r ≡ Written k
+answer-written true r k h = sym h
+answer-written false r k h = let z : _≡_ {A = ℕ} 0 1 = cc in absurd (omega arith)
 
 module _ (f s : List ℕ) (room : ℕ) where
   pub mergeable-written : {m n : ℕ} → Mergeable f s m n → length (mergedText f s) ≤ room → mergeLogs f s room ≡ Written (length (mergedText f s))

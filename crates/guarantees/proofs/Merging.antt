@@ -1,11 +1,12 @@
 -- Two logs, one log: what is guaranteed of merging (document 02, A11). Each theorem is a few words that cite the file with the work.
 -- Assumes nothing.
-use mathlib.Core.Path.{_≡_}
+use mathlib.Core.Path.{_≡_, sym}
 use mathlib.Core.List.{List, _++_, List·Permᴰ}
 use mathlib.Core.Logic.{_↔_}
 use Prim.Native.Nat.{ℕ, suc, _+_, _≤_, _<_, _^_}
 use lib.Dec.{ltb}
-use lib.ListN.{length, take}
+use lib.ListN.{length, take, drop}
+use lib.Seq.{take-at}
 use lib.Signed.{ltZ}
 use Rattle.numbers.specs.Twos.{untwos}
 use Rattle.sorting.specs.Order.{ofKey}
@@ -13,13 +14,14 @@ use Rattle.sorting.proofs.Sorted.{sort-permutes}
 use Rattle.events.specs.Answer.{lineAnswer}
 use Rattle.logs.specs.Events.{gather, eventsIn}
 use Rattle.event_lines.specs.Time.{rank, timeKey, fallIn}
-use Rattle.merging.specs.Merge.{mergedLines, mergedText, mergeLogs}
+use Rattle.lines.specs.Entry.{enough}
+use Rattle.merging.specs.Merge.{mergedLines, mergedText, mergeLogs, Whole}
 use Rattle.merging.specs.declared.Merged.the-variants.{Written}
 use Rattle.guarantees.specs.Lines.{logLines}
 use Rattle.guarantees.specs.Merging.{Mergeable, Rises, Subsequence, ReadsAs, Stays}
 use Rattle.guarantees.proofs.MergeOrder.{rank-order, lines-rise, merged-rises, merged-stable, merged-keeps}
 use Rattle.guarantees.proofs.FirstFall.{first-fall}
-use Rattle.guarantees.proofs.MergedLogs.{mergeable-written, written-mergeable, merged-reads, merged-stays}
+use Rattle.guarantees.proofs.MergedLogs.{answer-written, mergeable-written, written-mergeable, merged-reads, merged-stays}
 
 -- 1. Two logs are merged where neither is refused, the times of neither fall, and the result is short enough for a log and for the output:
 -- then the answer is the length of the merged text,
@@ -68,3 +70,12 @@ reads-merged = merged-reads
 -- 6. Merged with an empty log, before or behind it, the result stays as it is.
 pub merges-again : {f s : List ℕ} {m n : ℕ} → Mergeable f s m n → Stays (mergedText f s)
 merges-again = merged-stays
+
+-- 7. All of this holds of what a call left: where it answered that so many bytes were written, these are the merged text of logs that are
+-- merged so.
+pub merged-by-call : (f s k n t out : List ℕ) (count : ℕ) (k′ n′ t′ out′ : List ℕ) → Whole f s k n t out (Written count) k′ n′ t′ out′
+    → (i : ℕ) × (j : ℕ) × Mergeable f s i j × (take count out′ ≡ mergedText f s)
+merged-by-call f s k n t out count k′ n′ t′ out′ w =
+    let a : mergeLogs f s (length out) ≡ Written count = answer-written (enough k n t) (mergeLogs f s (length out)) count (w .answer) in
+    let m = written-mergeable f s (length out) count a in
+    (m .0, m .1, m .2, rw (w .output) (take-at (mergedText f s) (drop count out) count (sym (m .3))))
