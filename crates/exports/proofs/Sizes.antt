@@ -1,17 +1,17 @@
--- Answers are small: a pack's sizes, counts, a refusal's line and its log, so that their numbers fit into 64 bits and can be taken apart. No
--- success is as large as a refusal, and where a line is read or listed only a blank one is 0.
+-- Answers are small: a pack's sizes, counts, a refusal's line, so that their numbers fit into 64 bits and can be taken apart. No success
+-- is as large as a refusal, and where a line is read or listed only a blank one is 0.
 -- Assumes nothing.
 use mathlib.Core.Path.{_≡_, refl, subst}
 use mathlib.Core.Bool.{true, false, cond, not, _&&_, _||_}
 use mathlib.Core.List.{List, [], _∷_}
-use Prim.Native.Nat.{ℕ, zero, suc, _+_, _*_, _≤_, _<_}
+use Prim.Native.Nat.{ℕ, suc, _+_, _*_, _≤_, _<_}
 use native.Mathlib.Omega.{arith}
 use borrow.Author.Tests.{leb-true, ltb-false}
 use lib.Dec.{leb, ltb, eqb}
-use lib.ListN.{length, drop, length-append, length-drop}
+use lib.ListN.{length, length-append}
 use Rattle.buffers.proofs.Choice.{by-cond, both-arms, or-none-left, or-none-right}
 use Rattle.format.specs.Limits.{textLimit, lineLimit}
-use Rattle.format.specs.Refusals.{notUtf8, timesFallInFirst, timesFallInSecond}
+use Rattle.format.specs.Refusals.{notUtf8}
 use Rattle.format.specs.declared.Front.{Front}
 use Rattle.chars.specs.Utf8.{utf8}
 use Rattle.chars.specs.White.{empty, trim}
@@ -39,21 +39,18 @@ use Rattle.events.proofs.Bounds.{line-small}
 use Rattle.lines.specs.Entry.{enough, answerOf}
 use Rattle.lines.specs.declared.LineRead.{LineRead}
 use Rattle.lines.specs.declared.LineRead.the-variants as reading
-use Rattle.logs.specs.Lines.{linesOf, marked, unmarked, Walked, behind, stopped, onward, walkFrom}
+use Rattle.logs.specs.Lines.{linesOf, unmarked, Walked, behind, stopped, onward, walkFrom}
 use Rattle.logs.specs.Judge.{counted, countLine, judgedBy, judgeLog}
 use Rattle.logs.specs.declared.Judged.{Judged}
 use Rattle.logs.specs.declared.Judged.the-variants as judging
-use Rattle.event_lines.specs.Time.{rank, fallAt, fallFrom, fallIn}
-use Rattle.merging.specs.Merge.{mergedText, unlessRefused, unlessFalls, written, mergeLogs}
-use Rattle.merging.specs.declared.Merged.{Merged}
-use Rattle.merging.specs.declared.Merged.the-variants as merging
+use Rattle.event_lines.proofs.Extent.{unmarked-within}
 use Rattle.listing.specs.Lines.{eventLine, listSheet, listEvent}
 use Rattle.listing.specs.Entry.{listAnswer}
 use Rattle.listing.specs.declared.Listed.{Listed}
 use Rattle.listing.specs.declared.Listed.the-variants as listing
 use Rattle.listing.proofs.SheetLaid.{stage8, entries-closed}
 use Rattle.listing.proofs.Longest.{ListsWithin, listing-short}
-use Rattle.exports.specs.Answer.{refusal, ofCut, ofDecoded, ofSpelled, ofRead, readAnswer, ofJudged, judgeAnswer, ofMerged, mergeAnswer, ofListed, lineListed}
+use Rattle.exports.specs.Answer.{refusal, ofCut, ofDecoded, ofSpelled, ofRead, readAnswer, ofJudged, judgeAnswer, ofListed, lineListed}
 
 -- ---- a pack
 
@@ -126,17 +123,13 @@ lines-few (a ∷ r) =
     let h = lines-few r in
     both-arms (λ (l : List (List ℕ)). length l ≤ suc (length r)) (eqb a 10) (omega (arith, h)) (omega (arith, h, onto-few a (linesOf r)))
 
-unmarked-few : (s : List ℕ) → length (unmarked s) ≤ length s
-unfolding unmarked
-unmarked-few s = both-arms (λ (t : List ℕ). length t ≤ length s) (marked s) (omega (arith, length-drop 3 s)) (omega arith)
-
 walked-small : (w : Walked ℕ) → Within 65536 65537 w → SmallJudged (judgedBy w)
 walked-small (behind n) h = h
 walked-small (stopped e line) h = h
 
 -- no more lines than a log has bytes
-log-lines-few : (s : List ℕ) → length s ≤ textLimit → length (linesOf (unmarked s)) ≤ 65536
-log-lines-few s l = omega (arith, l, lines-few (unmarked s), unmarked-few s)
+pub log-lines-few : (s : List ℕ) → length s ≤ textLimit → length (linesOf (unmarked s)) ≤ 65536
+log-lines-few s l = omega (arith, l, lines-few (unmarked s), unmarked-within s)
 
 judge-text-small : (s : List ℕ) → length s ≤ textLimit → SmallJudged (cond (utf8 s) (judgedBy (walkFrom countLine 1 0 (linesOf (unmarked s)))) (judging.Refused notUtf8 0))
 judge-text-small s l =
@@ -145,74 +138,13 @@ judge-text-small s l =
     (walked-small (walkFrom countLine 1 0 (linesOf (unmarked s))) (walk-within 65536 65537 1 0 (linesOf (unmarked s)) (omega (arith, few)) (omega (arith, few))))
     (omega arith)
 
-judge-log-small : (s : List ℕ) → SmallJudged (judgeLog s)
+pub judge-log-small : (s : List ℕ) → SmallJudged (judgeLog s)
 unfolding judgeLog
 judge-log-small s =
     by-cond SmallJudged (leb (length s) textLimit) _ _ (λ h. judge-text-small s (leb-true (length s) textLimit h)) (λ h. omega arith)
 
 pub judge-small : (s k n t : List ℕ) → SmallJudged (judgeAnswer s k n t)
 judge-small s k n t = both-arms SmallJudged (enough k n t) (judge-log-small s) (omega arith)
-
--- ---- a merged log's bytes, and a refusal's log and line
-
-abbrev pub SmallMerged : Merged → Type 0
-SmallMerged (merging.Written n) = n ≤ 65536
-SmallMerged (merging.Refused n log line) = (log ≤ 2) × (line ≤ 65537)
-
--- a log that is not refused is not too long
-abbrev Kept : List ℕ → Judged → Type 0
-Kept s (judging.Accepted n) = length s ≤ textLimit
-Kept s (judging.Refused n line) = line ≤ 65537
-
-text-kept : (s : List ℕ) (j : Judged) → length s ≤ textLimit → SmallJudged j → Kept s j
-text-kept s (judging.Accepted n) l h = l
-text-kept s (judging.Refused n line) l h = h
-
-log-kept : (s : List ℕ) → Kept s (judgeLog s)
-unfolding judgeLog
-log-kept s =
-    by-cond (Kept s) (leb (length s) textLimit) _ _
-    (λ h. let l : length s ≤ textLimit = leb-true (length s) textLimit h in text-kept s (cond (utf8 s) (judgedBy (walkFrom countLine 1 0 (linesOf (unmarked s)))) (judging.Refused notUtf8 0)) l (judge-text-small s l))
-    (λ h. omega arith)
-
-fall-at-few : (m line last : ℕ) (a : Answer) (next : ℕ → ℕ) → line ≤ m → ((r : ℕ) → next r ≤ m) → fallAt line last a next ≤ m
-fall-at-few m line last (event e) next h i = both-arms (λ (n : ℕ). n ≤ m) (ltb (rank (e .time)) last) h (i (rank (e .time)))
-fall-at-few m line last blank next h i = i last
-fall-at-few m line last (Answer.refused n) next h i = i last
-
--- a fall is met at one of the lines
-fall-few : (m line last : ℕ) (l : List (List ℕ)) → line + length l ≤ m → fallFrom line last l ≤ m
-unfolding fallFrom
-fall-few m line last [] h = omega arith
-fall-few m line last (x ∷ xs) h = fall-at-few m line last (lineAnswer x) (λ r. fallFrom (suc line) r xs) (omega (arith, h)) (λ r. fall-few m (suc line) r xs (omega (arith, h)))
-
-log-falls : (s : List ℕ) → length s ≤ textLimit → fallIn s ≤ 65537
-log-falls s l = fall-few 65537 1 0 (linesOf (unmarked s)) (omega (arith, log-lines-few s l))
-
-unless-refused-small : (log : ℕ) (s : List ℕ) (j : Judged) (m : Merged) → log ≤ 2 → Kept s j → (length s ≤ textLimit → SmallMerged m) → SmallMerged (unlessRefused log j m)
-unless-refused-small log s (judging.Accepted n) m h l i = i l
-unless-refused-small log s (judging.Refused n line) m h l i = (h, l)
-
-unless-falls-small : (number log fall : ℕ) (m : Merged) → log ≤ 2 → fall ≤ 65537 → SmallMerged m → SmallMerged (unlessFalls number log fall m)
-unless-falls-small number log zero m h l i = i
-unless-falls-small number log (suc line) m h l i = (h, l)
-
-written-small : (room : ℕ) (text : List ℕ) → SmallMerged (written room text)
-written-small room text =
-    by-cond SmallMerged (leb (length text) textLimit) _ _
-    (λ h. both-arms SmallMerged (leb (length text) room) (leb-true (length text) textLimit h) (omega arith, omega arith))
-    (λ h. (omega arith, omega arith))
-
-merge-logs-small : (first second : List ℕ) (room : ℕ) → SmallMerged (mergeLogs first second room)
-unfolding mergeLogs
-merge-logs-small first second room =
-    unless-refused-small 1 first (judgeLog first) _ (omega arith) (log-kept first)
-    (λ l. unless-refused-small 2 second (judgeLog second) _ (omega arith) (log-kept second)
-    (λ k. unless-falls-small timesFallInFirst 1 (fallIn first) _ (omega arith) (log-falls first l)
-    (unless-falls-small timesFallInSecond 2 (fallIn second) _ (omega arith) (log-falls second k) (written-small room (mergedText first second)))))
-
-pub merge-small : (first second k n t out : List ℕ) → SmallMerged (mergeAnswer first second k n t out)
-merge-small first second k n t out = both-arms SmallMerged (enough k n t) (merge-logs-small first second (length out)) (omega arith, omega arith)
 
 -- ---- what was written: a count of places or bytes
 
@@ -292,11 +224,6 @@ sizes-apart f g a b h = (omega (arith, a .0, b .0, h), omega (arith, a .0, b .0,
 pub refusal-apart : (n line m other : ℕ) → n < 256 → m < 256 → ofJudged (judging.Refused n line) ≡ ofJudged (judging.Refused m other) → (n ≡ m) × (line ≡ other)
 refusal-apart n line m other a b h = (omega (arith, a, b, h), omega (arith, a, b, h))
 
--- and its log, where two are merged
-pub merge-refusal-apart : (n log line m other place : ℕ) → n < 256 → m < 256 → line < 262144 → place < 262144
-    → ofMerged (merging.Refused n log line) ≡ ofMerged (merging.Refused m other place) → (n ≡ m) × (log ≡ other) × (line ≡ place)
-merge-refusal-apart n log line m other place a b i j h = (omega (arith, a, b, h), omega (arith, a, b, i, j, h), omega (arith, a, b, i, j, h))
-
 -- ---- no success is as large as a refusal
 
 -- the places that cut a body
@@ -318,10 +245,6 @@ pack-below s k n t f e = let a = subst SmallRead e (read-small s k n t) in omega
 -- the events of a log
 pub count-below : (s k n t : List ℕ) (count : ℕ) → judgeAnswer s k n t ≡ judging.Accepted count → ofJudged (judging.Accepted count) < refusal 0
 count-below s k n t count e = omega (arith, subst SmallJudged e (judge-small s k n t))
-
--- the bytes of a merged log
-pub merge-below : (first second k n t out : List ℕ) (count : ℕ) → mergeAnswer first second k n t out ≡ merging.Written count → ofMerged (merging.Written count) < refusal 0
-merge-below first second k n t out count e = omega (arith, subst SmallMerged e (merge-small first second k n t out))
 
 -- the bytes of a listing
 pub list-below : (s : List ℕ) (number : ℕ) (k n t out : List ℕ) (count : ℕ) → lineListed s number k n t out ≡ listing.Written count

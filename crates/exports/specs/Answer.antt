@@ -4,7 +4,7 @@
 -- Assumes nothing.
 use mathlib.Core.Bool.{cond}
 use mathlib.Core.List.{List}
-use Prim.Native.Nat.{ℕ, _+_, _*_}
+use Prim.Native.Nat.{ℕ, _+_, _*_, _^_}
 use lib.ListN.{length}
 use Rattle.format.specs.Refusals.{tableTooShort}
 use Rattle.cuts.specs.declared.Cut.{Cut}
@@ -54,7 +54,7 @@ ofJudged (judging.Refused n line) = refusal n + 256 * line
 
 abbrev pub ofMerged : Merged → ℕ
 ofMerged (merging.Written n) = n
-ofMerged (merging.Refused n log line) = refusal n + 256 * line + 67108864 * log
+ofMerged (merging.Refused n log line) = refusal n + 256 * line + 2 ^ 26 * log
 
 abbrev pub ofListed : Listed → ℕ
 ofListed (listing.Written n) = n

@@ -109,7 +109,7 @@ pub extern "C" fn lulzhemor_judge(
 }
 
 // Merges two logs: how many bytes the merged log has, which are the output's first; or a refusal, 256 times the line where it was met and
-// 2^26 times the log, 1 or 2, the output unchanged.
+// 2^26 times the log, 1 or 2, or 0 where it is neither, the output unchanged.
 #[no_mangle]
 pub extern "C" fn lulzhemor_merge(
     kinds: &mut [u8],

@@ -25,8 +25,9 @@ use Rattle.events.specs.Line.{parseLine}
 use Rattle.events.specs.Answer.{Answer, event, blank, refused, eventOf, lineAnswer, readLine}
 use Rattle.logs.specs.Lines.{linesOf, marked, unmarked, behind, onward, walkFrom}
 use Rattle.logs.specs.Judge.{counted, countLine}
-use Rattle.logs.specs.Events.{EventLine, gathered, gather, eventsIn}
-use Rattle.event_lines.specs.Laid.{laid, texts}
+use Rattle.logs.specs.Events.{EventLine, gathered, gather, eventLines}
+use Rattle.event_lines.specs.Laid.{laid, lineTexts}
+use Rattle.event_lines.proofs.Surveying.{answer-trimmed}
 use Rattle.event_lines.proofs.Falls.{time-read, parsed-time}
 use Rattle.guarantees.specs.Lines.{Within, logLines}
 use Rattle.guarantees.proofs.LineTexts.{line-within, read-within}
@@ -41,10 +42,6 @@ pub record Sound (l : EventLine) : Type 0 where
   first : getD (l .text) 0 0 ≡ 64
   short : length (l .text) ≤ lineLimit
   read : lineAnswer (l .text) ≡ event (l .event)
-
-answer-trimmed : (x : List ℕ) → lineAnswer (trim x) ≡ lineAnswer x
-unfolding lineAnswer
-answer-trimmed x = rw (trim-idempotent x)
 
 -- a longer line is refused
 line-short : (x : List ℕ) (e : Event) → lineAnswer x ≡ event e → length (trim x) ≤ lineLimit
@@ -83,7 +80,7 @@ unfolding Each
 each-at P d [] h = tt
 each-at P d (x ∷ xs) h = (h 0, each-at P d xs (λ i. h (suc i)))
 
-pub log-sound : (s : List ℕ) → Within s → Each Sound (eventsIn s)
+pub log-sound : (s : List ℕ) → Within s → Each Sound (eventLines s)
 log-sound s w = gathered-sound (logLines s) (lines-feedless (unmarked s)) (each-at (λ (x : List ℕ). utf8 x ≡ true) [] (logLines s) (λ i. line-within s w i .encoded))
 
 -- ---- such lines, laid down
@@ -98,34 +95,34 @@ feed-encoded x rest u v =
     utf8-append x (10 ∷ rest) (starts-low 10 (omega arith))
     ∙ and-both (utf8 x) (utf8 (10 ∷ rest)) u (char-onward (10 ∷ rest) 10 1 (ascii-char 10 rest (omega arith)) ∙ v)
 
-pub laid-encoded : (ls : List EventLine) → Each Sound ls → utf8 (laid (texts ls)) ≡ true
+pub laid-encoded : (ls : List EventLine) → Each Sound ls → utf8 (laid (lineTexts ls)) ≡ true
 unfolding laid Each utf8From
 laid-encoded [] h = refl
-laid-encoded (l ∷ ls) h = feed-encoded (l .text) (laid (texts ls)) (h .0 .encoded) (laid-encoded ls (h .1))
+laid-encoded (l ∷ ls) h = feed-encoded (l .text) (laid (lineTexts ls)) (h .0 .encoded) (laid-encoded ls (h .1))
 
-lines-laid : (ls : List EventLine) → Each Sound ls → linesOf (laid (texts ls)) ≡ texts ls
+lines-laid : (ls : List EventLine) → Each Sound ls → linesOf (laid (lineTexts ls)) ≡ lineTexts ls
 unfolding laid Each linesOf
 lines-laid [] h = refl
-lines-laid (l ∷ ls) h = line-laid (l .text) (laid (texts ls)) (h .0 .feedless) ∙ ap (λ (xs : List (List ℕ)). l .text ∷ xs) (lines-laid ls (h .1))
+lines-laid (l ∷ ls) h = line-laid (l .text) (laid (lineTexts ls)) (h .0 .feedless) ∙ ap (λ (xs : List (List ℕ)). l .text ∷ xs) (lines-laid ls (h .1))
 
 first-kept : (x rest : List ℕ) → getD x 0 0 ≡ 64 → getD (x ++ rest) 0 0 ≡ 64
 first-kept [] rest e = absurd (omega arith)
 first-kept (a ∷ x) rest e = e
 
 -- no mark stands in front of them
-laid-unmarked : (ls : List EventLine) → Each Sound ls → unmarked (laid (texts ls)) ≡ laid (texts ls)
+laid-unmarked : (ls : List EventLine) → Each Sound ls → unmarked (laid (lineTexts ls)) ≡ laid (lineTexts ls)
 unfolding laid Each unmarked marked
 laid-unmarked [] h = refl
 laid-unmarked (l ∷ ls) h =
-    let e = first-kept (l .text) (ascii "\n" ++ laid (texts ls)) (h .0 .first) in
-    rw (ne-eqb (getD (l .text ++ (ascii "\n" ++ laid (texts ls))) 0 0) 0xEF (λ z. omega arith))
+    let e = first-kept (l .text) (ascii "\n" ++ laid (lineTexts ls)) (h .0 .first) in
+    rw (ne-eqb (getD (l .text ++ (ascii "\n" ++ laid (lineTexts ls))) 0 0) 0xEF (λ z. omega arith))
 
-pub laid-lines : (ls : List EventLine) → Each Sound ls → logLines (laid (texts ls)) ≡ texts ls
+pub laid-lines : (ls : List EventLine) → Each Sound ls → logLines (laid (lineTexts ls)) ≡ lineTexts ls
 laid-lines ls h = ap linesOf (laid-unmarked ls h) ∙ lines-laid ls h
 
 -- ---- and read again
 
-pub laid-answers : (ls : List EventLine) → Each Sound ls → map readLine (texts ls) ≡ map (λ (l : EventLine). event (l .event)) ls
+pub laid-answers : (ls : List EventLine) → Each Sound ls → map readLine (lineTexts ls) ≡ map (λ (l : EventLine). event (l .event)) ls
 unfolding Each
 laid-answers [] h = refl
 laid-answers (l ∷ ls) h =
@@ -134,17 +131,17 @@ laid-answers (l ∷ ls) h =
     let first : readLine (l .text) ≡ event (l .event) = read-within (l .text) w ∙ h .0 .read in
     rw (first, laid-answers ls (h .1))
 
-gather-laid : (ls : List EventLine) → Each Sound ls → gather lineAnswer (texts ls) ≡ ls
+gather-laid : (ls : List EventLine) → Each Sound ls → gather lineAnswer (lineTexts ls) ≡ ls
 unfolding gather Each
 gather-laid [] h = refl
 gather-laid (l ∷ ls) h = rw (h .0 .read, h .0 .trimmed, gather-laid ls (h .1))
 
-pub laid-events : (ls : List EventLine) → Each Sound ls → eventsIn (laid (texts ls)) ≡ ls
+pub laid-events : (ls : List EventLine) → Each Sound ls → eventLines (laid (lineTexts ls)) ≡ ls
 laid-events ls h = ap (gather lineAnswer) (laid-lines ls h) ∙ gather-laid ls h
 
 -- ---- and counted
 
-pub walk-counts : (k n : ℕ) (ls : List EventLine) → Each Sound ls → walkFrom countLine k n (texts ls) ≡ behind (n + length ls)
+pub walk-counts : (k n : ℕ) (ls : List EventLine) → Each Sound ls → walkFrom countLine k n (lineTexts ls) ≡ behind (n + length ls)
 unfolding walkFrom Each
 walk-counts k n [] h = let z : n ≡ n + 0 = omega arith in ap behind z
 walk-counts k n (l ∷ ls) h = let z : suc n + length ls ≡ n + suc (length ls) = omega arith in rw (h .0 .read) (walk-counts (suc k) (suc n) ls (h .1) ∙ ap behind z)

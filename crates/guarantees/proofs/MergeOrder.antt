@@ -17,7 +17,7 @@ use Rattle.sorting.specs.Merge.{mergeBy}
 use Rattle.sorting.proofs.Sorted.{sort-permutes, sort-ascends, sort-fixed, sort-stable}
 use Rattle.sorting.proofs.MergeLaws.{merge-end, merge-left, merge-right, merge-sorted}
 use Rattle.events.specs.Answer.{Answer, event, blank, refused, lineAnswer}
-use Rattle.logs.specs.Events.{EventLine, gathered, gather, eventsIn}
+use Rattle.logs.specs.Events.{EventLine, gathered, gather, eventLines}
 use Rattle.event_lines.specs.Time.{rank, timeKey, fallFrom, fallIn}
 use Rattle.merging.specs.Merge.{mergedLines}
 use Rattle.event_lines.proofs.Falls.{precedes-one, no-fall-ascends, ascends-no-fall, none-below, log-ascends, time-small}
@@ -68,9 +68,9 @@ each-permuted P (List·Permᴰ·cons e d) h = (subst P (sym e) (h .0), each-perm
 each-permuted P (List·Permᴰ·swap e f) h = (subst P (sym e) (h .1 .0), (subst P (sym f) (h .0), h .1 .1))
 each-permuted P (List·Permᴰ·trans d e) h = each-permuted P d (each-permuted P e h)
 
-pub each-merged : (P : EventLine → Type 0) (f s : List ℕ) → Each P (eventsIn f) → Each P (eventsIn s) → Each P (mergedLines f s)
+pub each-merged : (P : EventLine → Type 0) (f s : List ℕ) → Each P (eventLines f) → Each P (eventLines s) → Each P (mergedLines f s)
 unfolding mergedLines
-each-merged P f s g h = each-permuted P (sort-permutes timeKey (eventsIn f ++ eventsIn s)) (each-append P (eventsIn f) (eventsIn s) g h)
+each-merged P f s g h = each-permuted P (sort-permutes timeKey (eventLines f ++ eventLines s)) (each-append P (eventLines f) (eventLines s) g h)
 
 -- ---- the times rise
 
@@ -126,7 +126,7 @@ lines-rise xs = (
 
 pub merged-ascends : (f s : List ℕ) → Ascends timeKey (mergedLines f s)
 unfolding mergedLines
-merged-ascends f s = sort-ascends timeKey (eventsIn f ++ eventsIn s)
+merged-ascends f s = sort-ascends timeKey (eventLines f ++ eventLines s)
 
 pub merged-rises : (f s : List ℕ) → Rises (mergedLines f s)
 merged-rises f s = ascends-rises (mergedLines f s) (each-merged Small f s (gathered-small _) (gathered-small _)) (merged-ascends f s)
@@ -162,14 +162,14 @@ module _ {A : Type 0} (key : A → List ℕ) where
   kept (x ∷ xs) ys = kept-more x xs (kept xs) ys
 
 module _ (f s : List ℕ) where
-  pub merged-stable : (k : List ℕ) → ofKey timeKey k (mergedLines f s) ≡ ofKey timeKey k (eventsIn f) ++ ofKey timeKey k (eventsIn s)
+  pub merged-stable : (k : List ℕ) → ofKey timeKey k (mergedLines f s) ≡ ofKey timeKey k (eventLines f) ++ ofKey timeKey k (eventLines s)
   unfolding mergedLines
-  merged-stable k = sort-stable timeKey k (eventsIn f ++ eventsIn s) ∙ of-key-append timeKey k (eventsIn f) (eventsIn s)
+  merged-stable k = sort-stable timeKey k (eventLines f ++ eventLines s) ∙ of-key-append timeKey k (eventLines f) (eventLines s)
 
   module _ (g : fallIn f ≡ 0) (h : fallIn s ≡ 0) where
-    merged-runs : mergedLines f s ≡ mergeBy timeKey (eventsIn f) (eventsIn s)
+    merged-runs : mergedLines f s ≡ mergeBy timeKey (eventLines f) (eventLines s)
     unfolding mergedLines
-    merged-runs = rw (sort-fixed timeKey (eventsIn f) (log-ascends f g), sort-fixed timeKey (eventsIn s) (log-ascends s h)) at (sym (merge-sorted timeKey (eventsIn f) (eventsIn s)))
+    merged-runs = rw (sort-fixed timeKey (eventLines f) (log-ascends f g), sort-fixed timeKey (eventLines s) (log-ascends s h)) at (sym (merge-sorted timeKey (eventLines f) (eventLines s)))
 
-    pub merged-keeps : Subsequence (eventsIn f) (mergedLines f s) × Subsequence (eventsIn s) (mergedLines f s)
-    merged-keeps = rw merged-runs (kept timeKey (eventsIn f) (eventsIn s))
+    pub merged-keeps : Subsequence (eventLines f) (mergedLines f s) × Subsequence (eventLines s) (mergedLines f s)
+    merged-keeps = rw merged-runs (kept timeKey (eventLines f) (eventLines s))

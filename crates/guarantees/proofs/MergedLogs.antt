@@ -6,24 +6,27 @@ use mathlib.Core.List.{List, [], _++_, append-nil}
 use Prim.Native.Nat.{ℕ, zero, suc, _+_, _≤_}
 use native.Mathlib.Omega.{arith}
 use lib.Dec.{leb}
-use lib.ListN.{length, length-append}
+use lib.ListN.{length, take, drop, length-append}
+use lib.Seq.{take-at}
 use borrow.Author.Tests.{leb-true, le-leb}
 use Rattle.format.specs.Limits.{textLimit}
 use Rattle.format.specs.Refusals.{tableTooShort, outputTooShort, timesFallInFirst, timesFallInSecond, mergedTooLong}
 use Rattle.chars.specs.Utf8.{utf8From}
 use Rattle.sorting.specs.Order.{Each, Ascends}
 use Rattle.sorting.proofs.Sorted.{sort-length, sort-fixed}
+use Rattle.lines.specs.Entry.{enough}
 use Rattle.logs.specs.Lines.{linesOf, marked, unmarked, walkFrom, walk, behind}
 use Rattle.logs.specs.Judge.{countLine, judgeLog}
-use Rattle.logs.specs.Events.{EventLine, gather, eventsIn}
+use Rattle.logs.specs.Events.{EventLine, gather, eventLines}
 use Rattle.logs.specs.declared.Judged.{Judged}
 use Rattle.logs.specs.declared.Judged.the-variants as Judged
 use Rattle.event_lines.specs.Time.{timeKey, fallFrom, fallIn}
-use Rattle.event_lines.specs.Laid.{laid, texts}
-use Rattle.merging.specs.Merge.{mergedLines, mergedText, unlessRefused, unlessFalls, mergeLogs}
+use Rattle.event_lines.specs.Laid.{laid, lineTexts}
+use Rattle.merging.specs.Merge.{mergedLines, mergedText, unlessRefused, unlessFalls, mergeLogs, Whole}
 use Rattle.merging.specs.declared.Merged.{Merged}
 use Rattle.merging.specs.declared.Merged.the-variants.{Written, Refused}
 use Rattle.event_lines.proofs.Falls.{log-no-fall}
+use Rattle.event_lines.proofs.Accepted.{accepted-walked}
 use Rattle.guarantees.specs.Lines.{Within, logLines}
 use Rattle.guarantees.specs.Merging.{Mergeable, ReadsAs, Stays}
 use Rattle.guarantees.proofs.Judged.{accepted-within, log-walked}
@@ -33,7 +36,7 @@ use Rattle.guarantees.proofs.LaidLines.{Sound, log-sound, laid-encoded,
 -- ---- the answer
 
 -- bytes are written only where the tables are long enough
-pub answer-written : (b : Bool) (r : Merged) (k : ℕ) → Written k ≡ cond b r (Refused tableTooShort 0 0) → r ≡ Written k
+answer-written : (b : Bool) (r : Merged) (k : ℕ) → Written k ≡ cond b r (Refused tableTooShort 0 0) → r ≡ Written k
 answer-written true r k h = sym h
 answer-written false r k h = let z : _≡_ {A = ℕ} 0 1 = cc in absurd (omega arith)
 
@@ -66,11 +69,19 @@ module _ (f s : List ℕ) (room : ℕ) where
       go (Judged.Accepted m) (Judged.Refused e l) a b u v x y p q r t h = let z : _≡_ {A = ℕ} 0 1 = cc in absurd (omega arith)
       go (Judged.Refused e l) c a b u v x y p q r t h = let z : _≡_ {A = ℕ} 0 1 = cc in absurd (omega arith)
 
+-- the bytes that a call wrote
+pub call-merged : (f s k n t out : List ℕ) (count : ℕ) (k′ n′ t′ out′ : List ℕ) → Whole f s k n t out (Written count) k′ n′ t′ out′
+    → (i : ℕ) × (j : ℕ) × Mergeable f s i j × (take count out′ ≡ mergedText f s)
+call-merged f s k n t out count k′ n′ t′ out′ w =
+    let a : mergeLogs f s (length out) ≡ Written count = answer-written (enough k n t) (mergeLogs f s (length out)) count (w .answer) in
+    let m = written-mergeable f s (length out) count a in
+    (m .0, m .1, m .2, rw (w .output) (take-at (mergedText f s) (drop count out) count (sym (m .3))))
+
 -- ---- the merged log, read
 
 -- a log's count is how many lines it gathers
-events-counted : (s : List ℕ) (n : ℕ) → judgeLog s ≡ Judged.Accepted n → n ≡ length (eventsIn s)
-events-counted s n e = omega (arith, walk-counted 1 0 n (logLines s) (log-walked s (accepted-within s n e) n .0 e))
+events-counted : (s : List ℕ) (n : ℕ) → judgeLog s ≡ Judged.Accepted n → n ≡ length (eventLines s)
+events-counted s n e = omega (arith, walk-counted 1 0 n (logLines s) (accepted-walked s n e))
 
 module _ {f s : List ℕ} {m n : ℕ} (h : Mergeable f s m n) where
   sound : Each Sound (mergedLines f s)
@@ -80,13 +91,13 @@ module _ {f s : List ℕ} {m n : ℕ} (h : Mergeable f s m n) where
   unfolding mergedLines
   count = omega (
     arith,
-    sort-length timeKey (eventsIn f ++ eventsIn s),
-    length-append (eventsIn f) (eventsIn s),
+    sort-length timeKey (eventLines f ++ eventLines s),
+    length-append (eventLines f) (eventLines s),
     events-counted f m (h .first-accepted),
     events-counted s n (h .second-accepted),
   )
 
-  lines : logLines (mergedText f s) ≡ texts (mergedLines f s)
+  lines : logLines (mergedText f s) ≡ lineTexts (mergedLines f s)
   unfolding mergedText
   lines = laid-lines (mergedLines f s) sound
 
@@ -108,7 +119,7 @@ module _ {f s : List ℕ} {m n : ℕ} (h : Mergeable f s m n) where
 
 -- ---- and merged again
 
-no-events : eventsIn [] ≡ []
+no-events : eventLines [] ≡ []
 unfolding gather linesOf unmarked marked
 no-events = refl
 
@@ -121,17 +132,17 @@ unfolding fallFrom linesOf unmarked marked
 empty-rises = refl
 
 -- a log that ascends and is its own event lines, laid down
-module _ (t : List ℕ) (n : ℕ) (accepted : judgeLog t ≡ Judged.Accepted n) (ascends : Ascends timeKey (eventsIn t)) (own : laid (texts (eventsIn t)) ≡ t) where
+module _ (t : List ℕ) (n : ℕ) (accepted : judgeLog t ≡ Judged.Accepted n) (ascends : Ascends timeKey (eventLines t)) (own : laid (lineTexts (eventLines t)) ≡ t) where
   rises : fallIn t ≡ 0
   rises = log-no-fall t ascends
 
   with-empty : mergedText t [] ≡ t
   unfolding mergedText mergedLines
-  with-empty = rw (no-events, append-nil (eventsIn t), sort-fixed timeKey (eventsIn t) ascends) own
+  with-empty = rw (no-events, append-nil (eventLines t), sort-fixed timeKey (eventLines t) ascends) own
 
   empty-with : mergedText [] t ≡ t
   unfolding mergedText mergedLines
-  empty-with = rw (no-events, sort-fixed timeKey (eventsIn t) ascends) own
+  empty-with = rw (no-events, sort-fixed timeKey (eventLines t) ascends) own
 
   short : length t ≤ textLimit
   short = accepted-within t n accepted .short
@@ -163,4 +174,4 @@ pub merged-stays : {f s : List ℕ} {m n : ℕ} → Mergeable f s m n → Stays 
 unfolding mergedText
 merged-stays {f} {s} {m} {n} h =
     let r = merged-reads h in
-    own-stays (mergedText f s) (m + n) (r .judged) (rw (r .events) (merged-ascends f s)) (ap (λ (ls : List EventLine). laid (texts ls)) (r .events))
+    own-stays (mergedText f s) (m + n) (r .judged) (rw (r .events) (merged-ascends f s)) (ap (λ (ls : List EventLine). laid (lineTexts ls)) (r .events))

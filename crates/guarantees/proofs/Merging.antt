@@ -1,27 +1,25 @@
 -- Two logs, one log: what is guaranteed of merging (document 02, A11). Each theorem is a few words that cite the file with the work.
 -- Assumes nothing.
-use mathlib.Core.Path.{_≡_, sym}
+use mathlib.Core.Path.{_≡_}
 use mathlib.Core.List.{List, _++_, List·Permᴰ}
 use mathlib.Core.Logic.{_↔_}
 use Prim.Native.Nat.{ℕ, suc, _+_, _≤_, _<_, _^_}
 use lib.Dec.{ltb}
-use lib.ListN.{length, take, drop}
-use lib.Seq.{take-at}
+use lib.ListN.{length, take}
 use lib.Signed.{ltZ}
 use Rattle.numbers.specs.Twos.{untwos}
 use Rattle.sorting.specs.Order.{ofKey}
 use Rattle.sorting.proofs.Sorted.{sort-permutes}
 use Rattle.events.specs.Answer.{lineAnswer}
-use Rattle.logs.specs.Events.{gather, eventsIn}
+use Rattle.logs.specs.Events.{gather, eventLines}
 use Rattle.event_lines.specs.Time.{rank, timeKey, fallIn}
-use Rattle.lines.specs.Entry.{enough}
 use Rattle.merging.specs.Merge.{mergedLines, mergedText, mergeLogs, Whole}
 use Rattle.merging.specs.declared.Merged.the-variants.{Written}
 use Rattle.guarantees.specs.Lines.{logLines}
 use Rattle.guarantees.specs.Merging.{Mergeable, Rises, Subsequence, ReadsAs, Stays}
 use Rattle.guarantees.proofs.MergeOrder.{rank-order, lines-rise, merged-rises, merged-stable, merged-keeps}
 use Rattle.guarantees.proofs.FirstFall.{first-fall}
-use Rattle.guarantees.proofs.MergedLogs.{answer-written, mergeable-written, written-mergeable, merged-reads, merged-stays}
+use Rattle.guarantees.proofs.MergedLogs.{call-merged, mergeable-written, written-mergeable, merged-reads, merged-stays}
 
 -- 1. Two logs are merged where neither is refused, the times of neither fall, and the result is short enough for a log and for the output:
 -- then the answer is the length of the merged text,
@@ -34,16 +32,16 @@ pub written-means : (f s : List ℕ) (room k : ℕ) → mergeLogs f s room ≡ W
 written-means f s room k e = written-mergeable f s room k e
 
 -- 2. Every event line of both logs stands in the result exactly once.
-pub once-each : (f s : List ℕ) → List·Permᴰ (mergedLines f s) (eventsIn f ++ eventsIn s)
+pub once-each : (f s : List ℕ) → List·Permᴰ (mergedLines f s) (eventLines f ++ eventLines s)
 unfolding mergedLines
-once-each f s = sort-permutes timeKey (eventsIn f ++ eventsIn s)
+once-each f s = sort-permutes timeKey (eventLines f ++ eventLines s)
 
 -- 3. The number by which times are compared orders them as the integers that they stand for,
 pub key-order : (a b : ℕ) → a < 2 ^ 64 → b < 2 ^ 64 → ltb (rank a) (rank b) ≡ ltZ (untwos a) (untwos b)
 key-order = rank-order
 
 -- so a log's times fall nowhere just where they rise as integers;
-pub no-fall-iff : (s : List ℕ) → (fallIn s ≡ 0) ↔ Rises (eventsIn s)
+pub no-fall-iff : (s : List ℕ) → (fallIn s ≡ 0) ↔ Rises (eventLines s)
 no-fall-iff s = lines-rise (logLines s)
 
 -- where they fall, the line that is named is the first with which they do not rise;
@@ -56,11 +54,11 @@ pub times-rise : (f s : List ℕ) → Rises (mergedLines f s)
 times-rise = merged-rises
 
 -- 4. Of the lines of any one time, all of the first log come before all of the second, each log's in its own order;
-pub first-first : (f s k : List ℕ) → ofKey timeKey k (mergedLines f s) ≡ ofKey timeKey k (eventsIn f) ++ ofKey timeKey k (eventsIn s)
+pub first-first : (f s k : List ℕ) → ofKey timeKey k (mergedLines f s) ≡ ofKey timeKey k (eventLines f) ++ ofKey timeKey k (eventLines s)
 first-first = merged-stable
 
 -- and where the times of neither log fall, all lines of each stand in their own order.
-pub own-order : (f s : List ℕ) → fallIn f ≡ 0 → fallIn s ≡ 0 → Subsequence (eventsIn f) (mergedLines f s) × Subsequence (eventsIn s) (mergedLines f s)
+pub own-order : (f s : List ℕ) → fallIn f ≡ 0 → fallIn s ≡ 0 → Subsequence (eventLines f) (mergedLines f s) × Subsequence (eventLines s) (mergedLines f s)
 own-order = merged-keeps
 
 -- 5. The result is a log: its lines are the merged lines, each read as its event, and it is accepted with the events of both.
@@ -75,7 +73,4 @@ merges-again = merged-stays
 -- merged so.
 pub merged-by-call : (f s k n t out : List ℕ) (count : ℕ) (k′ n′ t′ out′ : List ℕ) → Whole f s k n t out (Written count) k′ n′ t′ out′
     → (i : ℕ) × (j : ℕ) × Mergeable f s i j × (take count out′ ≡ mergedText f s)
-merged-by-call f s k n t out count k′ n′ t′ out′ w =
-    let a : mergeLogs f s (length out) ≡ Written count = answer-written (enough k n t) (mergeLogs f s (length out)) count (w .answer) in
-    let m = written-mergeable f s (length out) count a in
-    (m .0, m .1, m .2, rw (w .output) (take-at (mergedText f s) (drop count out) count (sym (m .3))))
+merged-by-call = call-merged

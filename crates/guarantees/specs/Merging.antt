@@ -12,10 +12,10 @@ use Rattle.numbers.specs.Twos.{untwos}
 use Rattle.sorting.specs.Order.{Each}
 use Rattle.events.specs.Answer.{event, readLine}
 use Rattle.logs.specs.Judge.{judgeLog}
-use Rattle.logs.specs.Events.{EventLine, eventsIn}
+use Rattle.logs.specs.Events.{EventLine, eventLines}
 use Rattle.logs.specs.declared.Judged.the-variants.{Accepted}
 use Rattle.event_lines.specs.Time.{fallIn}
-use Rattle.event_lines.specs.Laid.{texts}
+use Rattle.event_lines.specs.Laid.{lineTexts}
 use Rattle.merging.specs.Merge.{mergedText, mergeLogs}
 use Rattle.merging.specs.declared.Merged.the-variants.{Written}
 use Rattle.guarantees.specs.Lines.{logLines}
@@ -43,9 +43,9 @@ Subsequence xs ys = Sublistᴰ xs ys
 
 -- the lines of a log are those of ls, none blank and none refused; each, read alone, answers its event; and the log is accepted with n events
 pub record ReadsAs (s : List ℕ) (ls : List EventLine) (n : ℕ) : Type 0 where
-  pub lines : logLines s ≡ texts ls
+  pub lines : logLines s ≡ lineTexts ls
   pub answers : map readLine (logLines s) ≡ map (λ (l : EventLine). event (l .event)) ls
-  pub events : eventsIn s ≡ ls
+  pub events : eventLines s ≡ ls
   pub judged : judgeLog s ≡ Accepted n
 
 -- a log that merging leaves as it is: its times do not fall, and merged with the empty log it gives its own bytes, in any output that holds them

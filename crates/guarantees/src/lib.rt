@@ -1,2 +1,2 @@
-// What is guaranteed of the whole product, as theorems. No code. Read proofs/ in this order: EntryPoints, Agreement, PackKeys, Merging,
-// ProofSet.
+// What is guaranteed of the whole product, as theorems. No code. Read proofs/ in this order: EntryPoints, Agreement, PackKeys,
+// NightListing, Merging, ProofSet.

@@ -1,9 +1,9 @@
 -- `exports::lulzhemor_merge` meets its contract: what `merge` ensures, its answer as a number. Assumes nothing.
-use mathlib.Core.Path.{_≡_, sym, ap, subst, _∙_}
+use mathlib.Core.Path.{sym, ap, subst, _∙_}
 use native.Mathlib.Omega.{arith}
 use borrow.Author.Needs.{needs}
 use Rattle.exports.specs.Answer.{ofMerged}
-use Rattle.exports.proofs.Sizes.{SmallMerged, merge-small}
+use Rattle.exports.proofs.MergeSizes.{SmallMerged, merge-small}
 use Rattle.exports.proofs.lulzhemor_merge.Statement.{statement}
 use Rattle.exports.proofs.lulzhemor_merge.Tie as tie
 
