@@ -37,7 +37,7 @@ extern "C" {
 /* ---- Answers ----
  * One number each. A success is below LULZHEMOR_REFUSED, a refusal is LULZHEMOR_REFUSED and its number, from lulzhemor_judge and
  * lulzhemor_merge 256 times its line more, and from lulzhemor_merge 2^26 times its log more. Lines count from 1, and line 0 is the whole
- * text. Log 1 is the first, 2 the second, and 0 neither: the refusal speaks of the tables or of the merged log. */
+ * text. Log 1 is the first, 2 the second, and 0 neither: the refusal speaks of the tables, of the merged log or of the output. */
 
 #define LULZHEMOR_REFUSED (UINT64_C(1) << 32)
 

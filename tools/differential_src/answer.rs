@@ -34,6 +34,10 @@ impl Ask {
     }
 }
 
+/// The entries that 01 asks for, of kinds and of numbers, and of text bytes. A longer table is used this far.
+pub const NODES: usize = 8_192;
+pub const TEXTS: usize = 32_768;
+
 /// Which pack tables are lent. A short one has one entry less than 01 asks for.
 #[derive(Clone, Copy, PartialEq, Debug)]
 pub enum Lent {
@@ -53,7 +57,7 @@ impl Lent {
             Lent::Longer | Lent::Exact => true,
             Lent::ShortKinds | Lent::ShortNumbers | Lent::ShortTexts => false,
             Lent::Any([kinds, numbers, texts]) => {
-                kinds >= 8_192 && numbers >= 8_192 && texts >= 32_768
+                kinds >= NODES && numbers >= NODES && texts >= TEXTS
             }
         }
     }

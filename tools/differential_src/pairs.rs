@@ -1,6 +1,6 @@
 //! Two logs to be merged: mostly logs whose times rise, so that they merge; falls, faults, texts at the limits, and logs of any kind.
 
-use crate::answer::{Ask, Lent, Question};
+use crate::answer::{Ask, Lent, NODES, Question, TEXTS};
 use crate::maker::Maker;
 use crate::questions;
 use crate::random::Random;
@@ -12,8 +12,6 @@ use oracle::merge;
 const SEED: u64 = 0x6d65_7267_6564;
 /// A merged log is judged and merged again once in so many.
 const AGAIN: usize = 8;
-/// The used lengths of the tables.
-const USED: [usize; 3] = [8_192, 8_192, 32_768];
 
 pub struct Pair {
     pub first: Vec<u8>,
@@ -56,7 +54,7 @@ impl Pair {
 /// Tables of any lengths, rarely: most are too short.
 fn any_tables(random: &mut Random) -> Option<Lent> {
     random.once_in(100).then(|| {
-        Lent::Any(USED.map(|used| match random.below(4) {
+        Lent::Any([NODES, NODES, TEXTS].map(|used| match random.below(4) {
             0 => random.below(used),
             1 => 0,
             _ => used + random.below(9),

@@ -1,6 +1,6 @@
 //! The product, linked as a static library (crate `exports`), with all that a call may do to what is lent to it.
 
-use differential::answer::{Answer, Ask, Lent, Question, Tables};
+use differential::answer::{Answer, Ask, Lent, NODES, Question, TEXTS, Tables};
 
 #[rustfmt::skip]
 mod c {
@@ -30,8 +30,6 @@ mod c {
 }
 
 /// The least lengths of the tables.
-const NODES: usize = 8_192;
-const TEXTS: usize = 32_768;
 /// Entries behind, which no call may touch.
 const BEHIND: usize = 16;
 /// What stands in tables and outputs before a call.

@@ -51,10 +51,9 @@ fn known(t: &mut Tester, first: &[u8], second: &[u8], answer: &str) {
     merged(t, answer.trim_end(), first, second);
 }
 
-fn known_answers(t: &mut Tester) {
-    let [a, b, falls] = ["a", "b", "falls"].map(|kind| event("5", kind));
-    let falls = falls + &event("4", "k");
-    let (whole, unended) = (whole_log(LOG), whole_log(LOG + 1));
+fn known_merges(t: &mut Tester) {
+    let [a, b] = ["a", "b"].map(|kind| event("5", kind));
+    let whole = whole_log(LOG);
     known(t, b"", b"", "");
     known(t, "\u{feff}".as_bytes(), b" \n\t\n", "");
     known(t, b.as_bytes(), a.as_bytes(), &format!("{b}{a}"));
@@ -64,47 +63,35 @@ fn known_answers(t: &mut Tester) {
         b"@-1 ::\"\"::b()",
         "@-1 ::\"\"::b()\n@5 ::\"\"::a() tail\n",
     );
-    known(
-        t,
-        falls.as_bytes(),
-        falls.as_bytes(),
-        "refused 45 log 1 line 2\n",
-    );
-    known(
-        t,
-        a.as_bytes(),
-        format!("{b}\n{falls}").as_bytes(),
-        "refused 46 log 2 line 4\n",
-    );
-    known(t, falls.as_bytes(), b"\n\nx", "refused 10 log 2 line 3\n");
-    known(t, b"x", b"\xff", "refused 10 log 1 line 1\n");
-    known(t, falls.as_bytes(), b"\xff", "refused 3 log 2 line 0\n");
-    known(t, b"\xff", b"", "refused 3 log 1 line 0\n");
-    known(
-        t,
-        &vec![b'\n'; LOG + 1],
-        b"\xff",
-        "refused 2 log 1 line 0\n",
-    );
-    known(
-        t,
-        a.as_bytes(),
-        &vec![b'\n'; 1_000_000],
-        "refused 2 log 2 line 0\n",
-    );
     known(t, whole.as_bytes(), b"", &whole);
-    known(
-        t,
-        b"",
-        unended.trim_end().as_bytes(),
-        "refused 47 log 0 line 0\n",
-    );
-    known(
-        t,
-        &whole.as_bytes()[..LOG - 1],
-        a.as_bytes(),
-        "refused 47 log 0 line 0\n",
-    );
+}
+
+/// The refusals of one log: its own, and a fall.
+fn known_refusals(t: &mut Tester) {
+    let [a, b, falls] = ["a", "b", "falls"].map(|kind| event("5", kind));
+    let falls = falls + &event("4", "k");
+    let later = format!("{b}\n{falls}");
+    let (a, falls, later) = (a.as_bytes(), falls.as_bytes(), later.as_bytes());
+    known(t, falls, falls, "refused 45 log 1 line 2\n");
+    known(t, a, later, "refused 46 log 2 line 4\n");
+    known(t, falls, b"\n\nx", "refused 10 log 2 line 3\n");
+    known(t, b"x", b"\xff", "refused 10 log 1 line 1\n");
+    known(t, falls, b"\xff", "refused 3 log 2 line 0\n");
+    known(t, b"\xff", b"", "refused 3 log 1 line 0\n");
+}
+
+/// Either file one byte too long for a log, and far too long; a merged log that is too long.
+fn known_sizes(t: &mut Tester) {
+    let one = event("5", "a");
+    let (whole, unended) = (whole_log(LOG), whole_log(LOG + 1));
+    for size in [LOG + 1, 1_000_000] {
+        let long = vec![b'\n'; size];
+        known(t, &long, b"\xff", "refused 2 log 1 line 0\n");
+        known(t, one.as_bytes(), &long, "refused 2 log 2 line 0\n");
+    }
+    let too_long = "refused 47 log 0 line 0\n";
+    known(t, b"", unended.trim_end().as_bytes(), too_long);
+    known(t, &whole.as_bytes()[..LOG - 1], one.as_bytes(), too_long);
 }
 
 /// Two logs whose times rise, with blank lines and whitespace between.
@@ -252,7 +239,9 @@ fn outputs(t: &mut Tester) {
 }
 
 pub fn all(t: &mut Tester, text: &str) {
-    known_answers(t);
+    known_merges(t);
+    known_refusals(t);
+    known_sizes(t);
     random_pairs(t);
     unreadable(t);
     odd_inputs(t);

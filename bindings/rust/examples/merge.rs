@@ -1,23 +1,31 @@
 //! Merges two logs into one: merge FIRST SECOND prints it, or the first refusal with its log and line.
-use std::error::Error;
+//! Exit status: 0 merged, 1 refused, 2 called in a wrong way, 3 reading or writing failed.
+use std::fmt::Display;
 use std::io::Write;
+use std::process::exit;
 
-fn print_merged(first: &str, second: &str) -> Result<(), Box<dyn Error>> {
-    let (first, second) = (std::fs::read(first)?, std::fs::read(second)?);
-    let mut merged = vec![0; lulzhemor::TEXT_LIMIT];
-    let count = lulzhemor::Tables::new().merge(&first, &second, &mut merged)?;
-    std::io::stdout().write_all(&merged[..count])?;
-    Ok(())
+/// Says why there is no merged log, and ends with this status.
+fn fail(status: i32, why: impl Display) -> ! {
+    eprintln!("{why}");
+    exit(status)
+}
+
+fn read(name: &str) -> Vec<u8> {
+    std::fs::read(name).unwrap_or_else(|why| fail(3, format!("{name}: {why}")))
 }
 
 fn main() {
     let names: Vec<String> = std::env::args().skip(1).collect();
     let [first, second] = names.as_slice() else {
-        eprintln!("usage: merge FIRST SECOND");
-        std::process::exit(2);
+        fail(2, "usage: merge FIRST SECOND");
     };
-    if let Err(why) = print_merged(first, second) {
-        eprintln!("{why}");
-        std::process::exit(1);
+    let (first, second) = (read(first), read(second));
+    let mut merged = vec![0; lulzhemor::TEXT_LIMIT];
+    let answer = lulzhemor::Tables::new().merge(&first, &second, &mut merged);
+    let count = answer.unwrap_or_else(|refusal| fail(1, refusal));
+    let mut output = std::io::stdout();
+    let written = output.write_all(&merged[..count]);
+    if let Err(why) = written.and_then(|()| output.flush()) {
+        fail(3, format!("standard output: {why}"));
     }
 }

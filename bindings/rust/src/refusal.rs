@@ -14,8 +14,8 @@ pub struct RefusedLine {
     pub line: u64,
 }
 
-/// The first refusal of two logs that were to be merged: the log that has it, 1 or 2, and the line where it was met; both are 0 where it
-/// speaks of neither log, and the line is where it speaks of a whole log.
+/// The first refusal of two logs that were to be merged: the log that has it, 1 or 2, and the line where it was met. Both are 0 where it
+/// speaks of neither log (of the tables, of the merged log or of the output), and the line alone is 0 where it speaks of a whole log.
 #[derive(Debug, Clone, Copy, PartialEq, Eq, Hash)]
 pub struct MergeRefusal {
     pub refusal: Refusal,
