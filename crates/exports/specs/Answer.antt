@@ -1,4 +1,4 @@
--- How an answer that is an enum passes to C: as one number. Refusal n of document 01 is 2^32 + n, and in a log that is judged or merged
+-- How an answer that is an enum passes to C: as one number. Refusal n is 2^32 + n, and in a log that is judged or merged
 -- 256 times its line more, and of two logs 2^26 times the log more; a success is less: the count of what was written, of events, or a
 -- pack's two sizes. A blank line is 0.
 -- Assumes nothing.

@@ -20,9 +20,11 @@ use listing::Listed;
 use logs::Judged;
 use merging::Merged;
 
-// Refusal n of document 01 is this number and n: no success is as large.
+// Refusal n is this number and n: no success is as large.
 const REFUSED: u64 = 4_294_967_296;
-// The log of a refusal where two are merged is so many times more, 2^26: 256 times a line is less.
+// The line of a refusal counts so many times: its number is less.
+const PER_LINE: u64 = 256;
+// The log of a refusal, where two are merged, counts 2^26 times: what its line counts is less.
 const PER_LOG: u64 = 67_108_864;
 
 // Is the text UTF-8?
@@ -104,7 +106,7 @@ pub extern "C" fn lulzhemor_judge(
 {
     match logs::judge(kinds, numbers, texts, log) {
         Judged::Accepted(count) => count as u64,
-        Judged::Refused(number, line) => REFUSED + (number as u64) + 256 * (line as u64),
+        Judged::Refused(number, line) => REFUSED + (number as u64) + PER_LINE * (line as u64),
     }
 }
 
@@ -128,7 +130,7 @@ pub extern "C" fn lulzhemor_merge(
         Merged::Written(count) => count as u64,
         Merged::Refused(number, log, line) => REFUSED
             + (number as u64)
-            + 256 * (line as u64)
+            + PER_LINE * (line as u64)
             + PER_LOG * (log as u64),
     }
 }
