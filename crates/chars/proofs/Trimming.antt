@@ -217,7 +217,7 @@ pub trim-end-length : (s : List ℕ) → length (trimEnd s) ≤ length s
 trim-end-length s = let h = trim-end-split s in omega (arith, length-append (trimEnd s) (h .0), ap length (h .1))
 
 -- a blank text begins with a byte that continues nothing
-blank-starts : (w : List ℕ) → trimStart w ≡ [] → starts (getD w 0 0) ≡ true
+pub blank-starts : (w : List ℕ) → trimStart w ≡ [] → starts (getD w 0 0) ≡ true
 unfolding trimFrom
 blank-starts [] e = starts-low 0 (omega arith)
 blank-starts (a ∷ r) e = white-starts (a ∷ r) (go (whiteAt (a ∷ r)) refl e)

@@ -1,4 +1,4 @@
--- Answers are small: a pack's sizes, counts, a refusal's line, so that their numbers fit into 64 bits and can be taken apart. No success
+-- Answers are small: a pack's sizes, counts and a refusal's line, so that their numbers fit into 64 bits and can be taken apart. No success
 -- is as large as a refusal, and where a line is read or listed only a blank one is 0.
 -- Assumes nothing.
 use mathlib.Core.Path.{_≡_, refl, subst}

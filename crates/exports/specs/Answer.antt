@@ -20,7 +20,6 @@ use Rattle.lines.specs.declared.LineRead.the-variants as reading
 use Rattle.logs.specs.Judge.{judgeLog}
 use Rattle.logs.specs.declared.Judged.{Judged}
 use Rattle.logs.specs.declared.Judged.the-variants as judging
-use Rattle.merging.specs.Merge.{mergeLogs}
 use Rattle.merging.specs.declared.Merged.{Merged}
 use Rattle.merging.specs.declared.Merged.the-variants as merging
 use Rattle.listing.specs.Entry.{listAnswer}
@@ -68,9 +67,6 @@ readAnswer s k n t = cond (enough k n t) (answerOf (readLine s)) (reading.Refuse
 
 abbrev pub judgeAnswer : List ℕ → List ℕ → List ℕ → List ℕ → Judged
 judgeAnswer s k n t = cond (enough k n t) (judgeLog s) (judging.Refused tableTooShort 0)
-
-abbrev pub mergeAnswer : List ℕ → List ℕ → List ℕ → List ℕ → List ℕ → List ℕ → Merged
-mergeAnswer first second k n t out = cond (enough k n t) (mergeLogs first second (length out)) (merging.Refused tableTooShort 0 0)
 
 abbrev pub lineListed : List ℕ → ℕ → List ℕ → List ℕ → List ℕ → List ℕ → Listed
 lineListed s number k n t out = cond (enough k n t) (listAnswer number (length out) (readLine s)) (listing.Refused tableTooShort)

@@ -1,28 +1,20 @@
 -- From where the walk over the lines ends to the judgement of the log: the limits stand before it.
 -- Assumes nothing.
 use mathlib.Core.Path.{_≡_, refl, sym, ap, _∙_}
-use mathlib.Core.Bool.{Bool, true, false, cond}
 use mathlib.Core.List.{List, []}
 use mathlib.Core.Logic.{_↔_}
 use Prim.Native.Nat.{ℕ}
 use native.Mathlib.Omega.{arith}
-use lib.Dec.{leb}
 use lib.ListN.{length, getD}
-use borrow.Author.Tests.{leb-true, le-leb}
+use borrow.Author.Tests.{le-leb}
 use Rattle.format.specs.Limits.{textLimit}
-use Rattle.format.specs.Refusals.{textTooLong, notUtf8}
-use Rattle.chars.specs.Utf8.{utf8}
 use Rattle.logs.specs.Lines.{Walked, behind, stopped, walk}
 use Rattle.logs.specs.Judge.{countLine, judgedBy, judgeLog}
 use Rattle.logs.specs.declared.Judged.the-variants.{Accepted, Refused}
-use Rattle.logs.proofs.Judging.{within-limits}
+use Rattle.logs.proofs.Judging.{within-limits, accepted-means}
 use Rattle.guarantees.specs.Lines.{Within, logLines, EachReadOrBlank, eventsIn, FirstRefused}
 use Rattle.guarantees.proofs.LineTexts.{line-within, read-within}
 use Rattle.guarantees.proofs.Walked.{Ended, ended, behind-iff, stopped-iff}
-
-judged-behind : (w : Walked ℕ) (n : ℕ) → judgedBy w ≡ Accepted n → w ≡ behind n
-judged-behind (behind m) n e = let z : m ≡ n = cc in ap behind z
-judged-behind (stopped x line) n e = let z : _≡_ {A = ℕ} 0 1 = cc in absurd (omega arith)
 
 judged-stopped : (w : Walked ℕ) (x line : ℕ) → judgedBy w ≡ Refused x line → w ≡ stopped x line
 judged-stopped (behind m) x line e = let z : _≡_ {A = ℕ} 0 1 = cc in absurd (omega arith)
@@ -30,21 +22,14 @@ judged-stopped (stopped y at) x line e = let a : y ≡ x = cc in let b : at ≡ 
 
 -- a log that is accepted is within the limits
 pub accepted-within : (s : List ℕ) (n : ℕ) → judgeLog s ≡ Accepted n → Within s
-unfolding judgeLog
-accepted-within s n e = go (leb (length s) textLimit) (utf8 s) refl refl e
-  where
-    go : (a b : Bool) → leb (length s) textLimit ≡ a → utf8 s ≡ b
-        → cond a (cond b (judgedBy (walk countLine 0 s)) (Refused notUtf8 0)) (Refused textTooLong 0) ≡ Accepted n → Within s
-    go true true p q h = record { short = leb-true (length s) textLimit p; encoded = q }
-    go true false p q h = let z : _≡_ {A = ℕ} 0 1 = cc in absurd (omega arith)
-    go false b p q h = let z : _≡_ {A = ℕ} 0 1 = cc in absurd (omega arith)
+accepted-within s n e = let a = accepted-means s n e in record { short = a .0; encoded = a .1 }
 
 module _ (s : List ℕ) (w : Within s) where
   walked : judgedBy (walk countLine 0 s) ≡ judgeLog s
   walked = within-limits s (judgedBy (walk countLine 0 s)) _ (le-leb (length s) textLimit (w .short)) (w .encoded) refl refl
 
   pub log-walked : (n : ℕ) → (judgeLog s ≡ Accepted n) ↔ (walk countLine 0 s ≡ behind n)
-  log-walked n = ((λ e. judged-behind (walk countLine 0 s) n (walked ∙ e)), (λ e. sym walked ∙ ap judgedBy e))
+  log-walked n = ((λ e. accepted-means s n e .2), (λ e. sym walked ∙ ap judgedBy e))
 
   log-ended : Ended 1 0 (logLines s) (walk countLine 0 s)
   log-ended = ended 1 0 (logLines s) (λ i. read-within (getD (logLines s) i []) (line-within s w i))

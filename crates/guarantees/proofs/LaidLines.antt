@@ -2,33 +2,30 @@
 -- and is read alike once more.
 -- Assumes nothing.
 use mathlib.Core.Path.{_≡_, refl, ap, _∙_}
-use mathlib.Core.Bool.{Bool, true, false, cond}
+use mathlib.Core.Bool.{true}
 use mathlib.Core.List.{List, [], _∷_, _++_, map}
 use Prim.Native.Nat.{ℕ, suc, _+_, _≤_}
 use native.Mathlib.Omega.{arith}
-use lib.Dec.{leb}
 use lib.ListN.{length, getD}
-use borrow.Author.Tests.{leb-true, ne-eqb}
+use borrow.Author.Tests.{ne-eqb}
 use Rattle.buffers.specs.Ascii.{ascii}
 use Rattle.buffers.proofs.Choice.{and-both}
 use Rattle.format.specs.Limits.{lineLimit}
-use Rattle.format.specs.Refusals.{lineTooLong}
 use Rattle.chars.specs.Utf8.{utf8From, utf8}
-use Rattle.chars.specs.White.{empty, trim}
+use Rattle.chars.specs.White.{trim}
 use Rattle.chars.proofs.Reading.{char-onward, ascii-char}
 use Rattle.chars.proofs.Boundary.{starts-low, utf8-append}
 use Rattle.chars.proofs.Trimming.{trim-idempotent}
 use Rattle.cuts.specs.Split.{onto}
 use Rattle.sorting.specs.Order.{Each}
+use Rattle.sorting.proofs.EachLaws.{each-by-place}
 use Rattle.events.specs.Event.{Event}
-use Rattle.events.specs.Line.{parseLine}
-use Rattle.events.specs.Answer.{Answer, event, blank, refused, eventOf, lineAnswer, readLine}
+use Rattle.events.specs.Answer.{Answer, event, blank, refused, lineAnswer, readLine}
+use Rattle.events.proofs.Answers.{answer-trimmed, answer-event, answer-time, parsed-time}
 use Rattle.logs.specs.Lines.{linesOf, marked, unmarked, behind, onward, walkFrom}
 use Rattle.logs.specs.Judge.{counted, countLine}
 use Rattle.logs.specs.Events.{EventLine, gathered, gather, eventLines}
 use Rattle.event_lines.specs.Laid.{laid, lineTexts}
-use Rattle.event_lines.proofs.Surveying.{answer-trimmed}
-use Rattle.event_lines.proofs.Falls.{time-read, parsed-time}
 use Rattle.guarantees.specs.Lines.{Within, logLines}
 use Rattle.guarantees.proofs.LineTexts.{line-within, read-within}
 use Rattle.guarantees.proofs.TrimmedTexts.{Feedless, utf8-trim, lines-feedless, trim-feedless}
@@ -43,25 +40,15 @@ pub record Sound (l : EventLine) : Type 0 where
   short : length (l .text) ≤ lineLimit
   read : lineAnswer (l .text) ≡ event (l .event)
 
--- a longer line is refused
-line-short : (x : List ℕ) (e : Event) → lineAnswer x ≡ event e → length (trim x) ≤ lineLimit
-unfolding lineAnswer
-line-short x e h = go (empty (trim x)) (leb (length (trim x)) lineLimit) refl h
-  where
-    go : (a b : Bool) → leb (length (trim x)) lineLimit ≡ b → cond a blank (cond b (eventOf (parseLine (trim x))) (refused lineTooLong)) ≡ event e → length (trim x) ≤ lineLimit
-    go true b p h = let z : _≡_ {A = ℕ} 0 1 = cc in absurd (omega arith)
-    go false true p h = leb-true (length (trim x)) lineLimit p
-    go false false p h = let z : _≡_ {A = ℕ} 0 1 = cc in absurd (omega arith)
-
 sound : (x : List ℕ) (e : Event) → Feedless x → utf8 x ≡ true → lineAnswer x ≡ event e → Sound (record { event = e; text = trim x })
 sound x e f u h =
-    let t = time-read x e h in
+    let t = answer-time x e h in
     record {
       feedless = trim-feedless x f;
       encoded = utf8-trim x u;
       trimmed = trim-idempotent x;
       first = parsed-time (trim x) (t .0) (t .1) .0;
-      short = line-short x e h;
+      short = answer-event x e h .1;
       read = answer-trimmed x ∙ h;
     }
 
@@ -75,13 +62,8 @@ gathered-sound (x ∷ xs) f u = go (lineAnswer x) refl (gathered-sound xs (f .1)
     go blank h rest = rest
     go (refused n) h rest = rest
 
-each-at : {A : Type 0} (P : A → Type 0) (d : A) (xs : List A) → ((i : ℕ) → P (getD xs i d)) → Each P xs
-unfolding Each
-each-at P d [] h = tt
-each-at P d (x ∷ xs) h = (h 0, each-at P d xs (λ i. h (suc i)))
-
 pub log-sound : (s : List ℕ) → Within s → Each Sound (eventLines s)
-log-sound s w = gathered-sound (logLines s) (lines-feedless (unmarked s)) (each-at (λ (x : List ℕ). utf8 x ≡ true) [] (logLines s) (λ i. line-within s w i .encoded))
+log-sound s w = gathered-sound (logLines s) (lines-feedless (unmarked s)) (each-by-place (λ (x : List ℕ). utf8 x ≡ true) [] (logLines s) (λ i. line-within s w i .encoded))
 
 -- ---- such lines, laid down
 

@@ -1,6 +1,6 @@
 -- The tables that a call of `read_line` left, where it answered with an event: its pack stands in them, and its line is one that is read.
 -- Assumes nothing.
-use mathlib.Core.Path.{_≡_, refl, ap, _∙_}
+use mathlib.Core.Path.{_≡_, refl, _∙_}
 use mathlib.Core.Bool.{Bool, true, false, cond}
 use mathlib.Core.List.{List}
 use mathlib.Core.Logic.{_⊎_, inl, inr}
@@ -8,18 +8,16 @@ use Prim.Native.Nat.{ℕ}
 use native.Mathlib.Omega.{arith}
 use lib.Dec.{leb}
 use lib.ListN.{length, drop}
-use borrow.Author.Tests.{leb-true}
-use Rattle.format.specs.Limits.{textLimit, lineLimit, nodesUsed, textsUsed}
-use Rattle.format.specs.Refusals.{textTooLong, notUtf8, lineTooLong, tableTooShort}
+use Rattle.format.specs.Limits.{textLimit, nodesUsed, textsUsed}
+use Rattle.format.specs.Refusals.{textTooLong, notUtf8, tableTooShort}
 use Rattle.format.specs.declared.Front.{Front}
 use Rattle.chars.specs.Utf8.{utf8}
-use Rattle.chars.specs.White.{empty, trim}
+use Rattle.chars.specs.White.{trim}
 use Rattle.pack.specs.Pack.{Pack, emptyPack}
 use Rattle.pack.proofs.Appended.{pack-is}
-use Rattle.heads.specs.Outcome.{Outcome, ok}
 use Rattle.events.specs.Event.{Event, putEvent}
-use Rattle.events.specs.Line.{parseLine}
-use Rattle.events.specs.Answer.{Answer, event, blank, refused, eventOf, lineAnswer, readLine}
+use Rattle.events.specs.Answer.{Answer, event, blank, refused, lineAnswer, readLine}
+use Rattle.events.proofs.Answers.{answer-event}
 use Rattle.lines.specs.Entry.{frontOf, answerOf, enough}
 use Rattle.lines.specs.declared.LineRead.{LineRead}
 use Rattle.lines.specs.declared.LineRead.the-variants as LineRead
@@ -30,18 +28,8 @@ use Rattle.guarantees.proofs.Standing.{tables-padded}
 
 -- ---- a line that is read
 
-outcome-read : (o : Outcome Event) (e : Event) → eventOf o ≡ event e → o ≡ ok e
-outcome-read (ok d) e h = let z : d ≡ e = cc in ap ok z
-outcome-read (Outcome.refused n) e h = let z : _≡_ {A = ℕ} 0 1 = cc in absurd (omega arith)
-
 line-read : (s : List ℕ) (e : Event) → lineAnswer s ≡ event e → Accepted (trim s) e
-unfolding lineAnswer
-line-read s e h = go (empty (trim s)) (leb (length (trim s)) lineLimit) refl h
-  where
-    go : (a b : Bool) → leb (length (trim s)) lineLimit ≡ b → cond a blank (cond b (eventOf (parseLine (trim s))) (refused lineTooLong)) ≡ event e → Accepted (trim s) e
-    go true b p h = let z : _≡_ {A = ℕ} 0 1 = cc in absurd (omega arith)
-    go false true p h = record { read = outcome-read (parseLine (trim s)) e h; short = omega (arith, leb-true (length (trim s)) lineLimit p) }
-    go false false p h = let z : _≡_ {A = ℕ} 0 1 = cc in absurd (omega arith)
+line-read s e h = let a = answer-event s e h in record { read = a .2; short = omega (arith, a .1) }
 
 pub read-accepted : (s : List ℕ) {e : Event} → readLine s ≡ event e → Accepted (trim s) e
 unfolding readLine

@@ -1,27 +1,28 @@
 -- The order of a merged log's lines. Ranks compare as the integers do that the times stand for; and two logs whose times do not fall are
 -- merged as two runs, in which each keeps its order.
 -- Assumes nothing.
-use mathlib.Core.Path.{_≡_, refl, sym, ap, subst, _∙_}
-use mathlib.Core.Bool.{Bool, true, false, cond, not}
-use mathlib.Core.List.{List, [], _∷_, _++_, List·Permᴰ, List·Permᴰ·nil, List·Permᴰ·cons, List·Permᴰ·swap, List·Permᴰ·trans, Sublistᴰ·cons, Sublistᴰ·cons-cons, Sublistᴰ·nil-sublist, Sublistᴰ·refl}
+use mathlib.Core.Path.{_≡_, refl, sym, subst, _∙_}
+use mathlib.Core.Bool.{Bool, true, false, not}
+use mathlib.Core.List.{List, [], _∷_, _++_, Permᴰ·symm}
 use mathlib.Core.Logic.{_↔_}
 use Prim.Native.Nat.{ℕ, suc, _-_, _≤_, _<_, _^_}
 use native.Mathlib.Omega.{arith}
 use lib.Dec.{T, ltb}
 use lib.Signed.{ltZ, _≤ℤ_, ltZ-yes, ltZ-no, clashℤ}
 use borrow.Author.Tests.{ltb-true, ltb-false, lt-ltb, le-ltb}
-use Rattle.buffers.specs.Same.{same}
 use Rattle.numbers.specs.Twos.{untwos}
 use Rattle.sorting.specs.Order.{precedes, Each, Ascends, ofKey}
 use Rattle.sorting.specs.Merge.{mergeBy}
-use Rattle.sorting.proofs.Sorted.{sort-permutes, sort-ascends, sort-fixed, sort-stable}
-use Rattle.sorting.proofs.MergeLaws.{merge-end, merge-left, merge-right, merge-sorted}
+use Rattle.sorting.proofs.EachLaws.{each-both, each-append, each-permuted}
+use Rattle.sorting.proofs.Sorted.{sort-permutes, sort-ascends, sort-fixed, of-key-append, sort-stable}
+use Rattle.sorting.proofs.MergeLaws.{merge-sorted, merge-keeps}
 use Rattle.events.specs.Answer.{Answer, event, blank, refused, lineAnswer}
+use Rattle.events.proofs.Answers.{time-small}
 use Rattle.logs.specs.Events.{EventLine, gathered, gather, eventLines}
 use Rattle.event_lines.specs.Time.{rank, timeKey, fallFrom, fallIn}
 use Rattle.merging.specs.Merge.{mergedLines}
-use Rattle.event_lines.proofs.Falls.{precedes-one, no-fall-ascends, ascends-no-fall, none-below, log-ascends, time-small}
-use Rattle.guarantees.specs.Merging.{timeOf, Rises, Subsequence}
+use Rattle.event_lines.proofs.Falls.{precedes-one, lines-ascend, lines-no-fall}
+use Rattle.guarantees.specs.Merging.{signedTime, Rises, Subsequence}
 
 -- ---- ranks and integers
 
@@ -56,21 +57,9 @@ module _ (a b : ℕ) (small-a : a < 2 ^ 64) (small-b : b < 2 ^ 64) where
 
 -- ---- what holds of each line of both logs holds of each merged line
 
-each-append : {A : Type 0} (P : A → Type 0) (xs ys : List A) → Each P xs → Each P ys → Each P (xs ++ ys)
-unfolding Each
-each-append P [] ys g h = h
-each-append P (x ∷ xs) ys g h = (g .0, each-append P xs ys (g .1) h)
-
-each-permuted : {A : Type 0} (P : A → Type 0) {xs ys : List A} → List·Permᴰ xs ys → Each P ys → Each P xs
-unfolding Each
-each-permuted P List·Permᴰ·nil h = tt
-each-permuted P (List·Permᴰ·cons e d) h = (subst P (sym e) (h .0), each-permuted P d (h .1))
-each-permuted P (List·Permᴰ·swap e f) h = (subst P (sym e) (h .1 .0), (subst P (sym f) (h .0), h .1 .1))
-each-permuted P (List·Permᴰ·trans d e) h = each-permuted P d (each-permuted P e h)
-
 pub each-merged : (P : EventLine → Type 0) (f s : List ℕ) → Each P (eventLines f) → Each P (eventLines s) → Each P (mergedLines f s)
 unfolding mergedLines
-each-merged P f s g h = each-permuted P (sort-permutes timeKey (eventLines f ++ eventLines s)) (each-append P (eventLines f) (eventLines s) g h)
+each-merged P f s g h = each-permuted P (Permᴰ·symm (sort-permutes timeKey (eventLines f ++ eventLines s))) (each-append P (eventLines f) (eventLines s) g h)
 
 -- ---- the times rise
 
@@ -89,23 +78,18 @@ gathered-small (x ∷ xs) = go (lineAnswer x) refl (gathered-small xs)
 
 -- of two lines, the later one's key does not come first just where its time is not below
 module _ (l k : EventLine) (small-l : Small l) (small-k : Small k) where
-  keys-order : precedes (timeKey k) (timeKey l) ≡ ltZ (timeOf k) (timeOf l)
+  keys-order : precedes (timeKey k) (timeKey l) ≡ ltZ (signedTime k) (signedTime l)
   keys-order = precedes-one _ _ ∙ rank-order (k .event .time) (l .event .time) small-k small-l
 
-  not-above : precedes (timeKey k) (timeKey l) ≡ false → timeOf l ≤ℤ timeOf k
+  not-above : precedes (timeKey k) (timeKey l) ≡ false → signedTime l ≤ℤ signedTime k
   not-above e = ltZ-no (subst (λ (t : Bool). T (not t)) (sym e ∙ keys-order) tt)
 
-  not-first : timeOf l ≤ℤ timeOf k → precedes (timeKey k) (timeKey l) ≡ false
-  not-first h = keys-order ∙ go (ltZ (timeOf k) (timeOf l)) refl
+  not-first : signedTime l ≤ℤ signedTime k → precedes (timeKey k) (timeKey l) ≡ false
+  not-first h = keys-order ∙ go (ltZ (signedTime k) (signedTime l)) refl
     where
-      go : (t : Bool) → ltZ (timeOf k) (timeOf l) ≡ t → t ≡ false
-      go true e = clashℤ (ltZ-yes {a = timeOf k} {b = timeOf l} (subst T (sym e) tt)) h
+      go : (t : Bool) → ltZ (signedTime k) (signedTime l) ≡ t → t ≡ false
+      go true e = clashℤ (ltZ-yes {a = signedTime k} {b = signedTime l} (subst T (sym e) tt)) h
       go false e = refl
-
-each-both : {A : Type 0} (P Q R : A → Type 0) → ((x : A) → P x → Q x → R x) → (xs : List A) → Each P xs → Each Q xs → Each R xs
-unfolding Each
-each-both P Q R f [] g h = tt
-each-both P Q R f (x ∷ xs) g h = (f x (g .0) (h .0), each-both P Q R f xs (g .1) (h .1))
 
 ascends-rises : (ls : List EventLine) → Each Small ls → Ascends timeKey ls → Rises ls
 unfolding Each Ascends Rises
@@ -120,8 +104,8 @@ rises-ascends (l ∷ ls) small h = (each-both Small _ _ (λ k s. not-first l k (
 -- of lines that are read one after the other, no time falls just where they rise
 pub lines-rise : (xs : List (List ℕ)) → (fallFrom 1 0 xs ≡ 0) ↔ Rises (gather lineAnswer xs)
 lines-rise xs = (
-  (λ h. ascends-rises (gather lineAnswer xs) (gathered-small xs) (no-fall-ascends 1 0 xs (omega arith) h .1)),
-  (λ h. ascends-no-fall 1 0 xs (none-below (gather lineAnswer xs), rises-ascends (gather lineAnswer xs) (gathered-small xs) h)),
+  (λ h. ascends-rises (gather lineAnswer xs) (gathered-small xs) (lines-ascend xs h)),
+  (λ h. lines-no-fall xs (rises-ascends (gather lineAnswer xs) (gathered-small xs) h)),
 )
 
 pub merged-ascends : (f s : List ℕ) → Ascends timeKey (mergedLines f s)
@@ -133,34 +117,6 @@ merged-rises f s = ascends-rises (mergedLines f s) (each-merged Small f s (gathe
 
 -- ---- the first log's lines first
 
-module _ {A : Type 0} (key : A → List ℕ) where
-  of-key-append : (k : List ℕ) (xs ys : List A) → ofKey key k (xs ++ ys) ≡ ofKey key k xs ++ ofKey key k ys
-  unfolding ofKey
-  of-key-append k [] ys = refl
-  of-key-append k (x ∷ xs) ys = go (same (key x) k) (of-key-append k xs ys)
-    where
-      go : (t : Bool) → ofKey key k (xs ++ ys) ≡ ofKey key k xs ++ ofKey key k ys
-          → cond t (x ∷ ofKey key k (xs ++ ys)) (ofKey key k (xs ++ ys)) ≡ cond t (x ∷ ofKey key k xs) (ofKey key k xs) ++ ofKey key k ys
-      go true e = ap (λ (l : List A). x ∷ l) e
-      go false e = e
-
-  -- each of two runs that are merged keeps its order
-  abbrev Kept : List A → List A → Type 0
-  Kept xs ys = Subsequence xs (mergeBy key xs ys) × Subsequence ys (mergeBy key xs ys)
-
-  kept-more : (x : A) (xs : List A) → ((ys : List A) → Kept xs ys) → (ys : List A) → Kept (x ∷ xs) ys
-  kept-more x xs ih [] = rw (merge-end key (x ∷ xs)) (Sublistᴰ·refl (x ∷ xs), Sublistᴰ·nil-sublist (x ∷ xs))
-  kept-more x xs ih (y ∷ ys) = go (precedes (key y) (key x)) refl (kept-more x xs ih ys)
-    where
-      go : (t : Bool) → precedes (key y) (key x) ≡ t → Kept (x ∷ xs) ys → Kept (x ∷ xs) (y ∷ ys)
-      go true e k = rw (merge-right key x y xs ys e) (Sublistᴰ·cons (k .0), Sublistᴰ·cons-cons refl (k .1))
-      go false e k = rw (merge-left key x y xs ys e) (Sublistᴰ·cons-cons refl (ih (y ∷ ys) .0), Sublistᴰ·cons (ih (y ∷ ys) .1))
-
-  kept : (xs ys : List A) → Kept xs ys
-  unfolding mergeBy
-  kept [] ys = (Sublistᴰ·nil-sublist ys, Sublistᴰ·refl ys)
-  kept (x ∷ xs) ys = kept-more x xs (kept xs) ys
-
 module _ (f s : List ℕ) where
   pub merged-stable : (k : List ℕ) → ofKey timeKey k (mergedLines f s) ≡ ofKey timeKey k (eventLines f) ++ ofKey timeKey k (eventLines s)
   unfolding mergedLines
@@ -169,7 +125,7 @@ module _ (f s : List ℕ) where
   module _ (g : fallIn f ≡ 0) (h : fallIn s ≡ 0) where
     merged-runs : mergedLines f s ≡ mergeBy timeKey (eventLines f) (eventLines s)
     unfolding mergedLines
-    merged-runs = rw (sort-fixed timeKey (eventLines f) (log-ascends f g), sort-fixed timeKey (eventLines s) (log-ascends s h)) at (sym (merge-sorted timeKey (eventLines f) (eventLines s)))
+    merged-runs = rw (sort-fixed timeKey (eventLines f) (lines-ascend _ g), sort-fixed timeKey (eventLines s) (lines-ascend _ h)) at (sym (merge-sorted timeKey (eventLines f) (eventLines s)))
 
     pub merged-keeps : Subsequence (eventLines f) (mergedLines f s) × Subsequence (eventLines s) (mergedLines f s)
-    merged-keeps = rw merged-runs (kept timeKey (eventLines f) (eventLines s))
+    merged-keeps = rw merged-runs (merge-keeps timeKey (eventLines f) (eventLines s))

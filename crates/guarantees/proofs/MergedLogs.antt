@@ -3,14 +3,13 @@
 use mathlib.Core.Path.{_≡_, refl, sym, ap, _∙_}
 use mathlib.Core.Bool.{Bool, true, false, cond}
 use mathlib.Core.List.{List, [], _++_, append-nil}
-use Prim.Native.Nat.{ℕ, zero, suc, _+_, _≤_}
+use Prim.Native.Nat.{ℕ, _+_, _≤_}
 use native.Mathlib.Omega.{arith}
-use lib.Dec.{leb}
 use lib.ListN.{length, take, drop, length-append}
 use lib.Seq.{take-at}
-use borrow.Author.Tests.{leb-true, le-leb}
+use borrow.Author.Tests.{le-leb}
 use Rattle.format.specs.Limits.{textLimit}
-use Rattle.format.specs.Refusals.{tableTooShort, outputTooShort, timesFallInFirst, timesFallInSecond, mergedTooLong}
+use Rattle.format.specs.Refusals.{tableTooShort}
 use Rattle.chars.specs.Utf8.{utf8From}
 use Rattle.sorting.specs.Order.{Each, Ascends}
 use Rattle.sorting.proofs.Sorted.{sort-length, sort-fixed}
@@ -18,15 +17,15 @@ use Rattle.lines.specs.Entry.{enough}
 use Rattle.logs.specs.Lines.{linesOf, marked, unmarked, walkFrom, walk, behind}
 use Rattle.logs.specs.Judge.{countLine, judgeLog}
 use Rattle.logs.specs.Events.{EventLine, gather, eventLines}
-use Rattle.logs.specs.declared.Judged.{Judged}
 use Rattle.logs.specs.declared.Judged.the-variants as Judged
+use Rattle.logs.proofs.Judging.{accepted-means}
 use Rattle.event_lines.specs.Time.{timeKey, fallFrom, fallIn}
 use Rattle.event_lines.specs.Laid.{laid, lineTexts}
-use Rattle.merging.specs.Merge.{mergedLines, mergedText, unlessRefused, unlessFalls, mergeLogs, Whole}
+use Rattle.merging.specs.Merge.{mergedLines, mergedText, mergeLogs, Whole}
 use Rattle.merging.specs.declared.Merged.{Merged}
 use Rattle.merging.specs.declared.Merged.the-variants.{Written, Refused}
-use Rattle.event_lines.proofs.Falls.{log-no-fall}
-use Rattle.event_lines.proofs.Accepted.{accepted-walked}
+use Rattle.event_lines.proofs.Falls.{lines-no-fall}
+use Rattle.merging.proofs.Cases.{by-cases}
 use Rattle.guarantees.specs.Lines.{Within, logLines}
 use Rattle.guarantees.specs.Merging.{Mergeable, ReadsAs, Stays}
 use Rattle.guarantees.proofs.Judged.{accepted-within, log-walked}
@@ -50,24 +49,20 @@ module _ (f s : List ℕ) (room : ℕ) where
   Means k = (m : ℕ) × (n : ℕ) × Mergeable f s m n × (k ≡ length (mergedText f s)) × (k ≤ room)
 
   pub written-mergeable : (k : ℕ) → mergeLogs f s room ≡ Written k → Means k
-  unfolding mergeLogs
-  written-mergeable k h =
-      go (judgeLog f) (judgeLog s) refl refl (fallIn f) (fallIn s) refl refl (leb (length (mergedText f s)) textLimit) (leb (length (mergedText f s)) room) refl refl h
+  written-mergeable k = by-cases (λ (r : Merged). r ≡ Written k → Means k) f s room (record {
+    first-refused = λ number line a h. not-written h;
+    second-refused = λ number line b h. not-written h;
+    first-falls = λ m line a x h. not-written h;
+    second-falls = λ n line b y h. not-written h;
+    too-long = not-written;
+    no-room = not-written;
+    merged = λ m n a b x y short fits h.
+        let e : length (mergedText f s) ≡ k = cc in
+        (m, n, record { first-accepted = a; second-accepted = b; first-rises = x; second-rises = y; short = short }, sym e, omega (arith, fits));
+  })
     where
-      go : (a b : Judged) → judgeLog f ≡ a → judgeLog s ≡ b → (x y : ℕ) → fallIn f ≡ x → fallIn s ≡ y
-          → (p q : Bool) → leb (length (mergedText f s)) textLimit ≡ p → leb (length (mergedText f s)) room ≡ q
-          → unlessRefused 1 a (unlessRefused 2 b (unlessFalls timesFallInFirst 1 x (unlessFalls timesFallInSecond 2 y
-          (cond p (cond q (Written (length (mergedText f s))) (Refused outputTooShort 0 0)) (Refused mergedTooLong 0 0))))) ≡ Written k
-          → Means k
-      go (Judged.Accepted m) (Judged.Accepted n) a b zero zero x y true true p q h =
-          let e : length (mergedText f s) ≡ k = cc in
-          (m, n, record { first-accepted = a; second-accepted = b; first-rises = x; second-rises = y; short = leb-true _ _ p }, sym e, omega (arith, leb-true (length (mergedText f s)) room q))
-      go (Judged.Accepted m) (Judged.Accepted n) a b zero zero x y true false p q h = let z : _≡_ {A = ℕ} 0 1 = cc in absurd (omega arith)
-      go (Judged.Accepted m) (Judged.Accepted n) a b zero zero x y false q p r h = let z : _≡_ {A = ℕ} 0 1 = cc in absurd (omega arith)
-      go (Judged.Accepted m) (Judged.Accepted n) a b zero (suc l) x y p q r t h = let z : _≡_ {A = ℕ} 0 1 = cc in absurd (omega arith)
-      go (Judged.Accepted m) (Judged.Accepted n) a b (suc l) v x y p q r t h = let z : _≡_ {A = ℕ} 0 1 = cc in absurd (omega arith)
-      go (Judged.Accepted m) (Judged.Refused e l) a b u v x y p q r t h = let z : _≡_ {A = ℕ} 0 1 = cc in absurd (omega arith)
-      go (Judged.Refused e l) c a b u v x y p q r t h = let z : _≡_ {A = ℕ} 0 1 = cc in absurd (omega arith)
+      not-written : {number log line : ℕ} → Refused number log line ≡ Written k → Means k
+      not-written h = let z : _≡_ {A = ℕ} 0 1 = cc in absurd (omega arith)
 
 -- the bytes that a call wrote
 pub call-merged : (f s k n t out : List ℕ) (count : ℕ) (k′ n′ t′ out′ : List ℕ) → Whole f s k n t out (Written count) k′ n′ t′ out′
@@ -81,7 +76,7 @@ call-merged f s k n t out count k′ n′ t′ out′ w =
 
 -- a log's count is how many lines it gathers
 events-counted : (s : List ℕ) (n : ℕ) → judgeLog s ≡ Judged.Accepted n → n ≡ length (eventLines s)
-events-counted s n e = omega (arith, walk-counted 1 0 n (logLines s) (accepted-walked s n e))
+events-counted s n e = omega (arith, walk-counted 1 0 n (logLines s) (accepted-means s n e .2))
 
 module _ {f s : List ℕ} {m n : ℕ} (h : Mergeable f s m n) where
   sound : Each Sound (mergedLines f s)
@@ -134,7 +129,7 @@ empty-rises = refl
 -- a log that ascends and is its own event lines, laid down
 module _ (t : List ℕ) (n : ℕ) (accepted : judgeLog t ≡ Judged.Accepted n) (ascends : Ascends timeKey (eventLines t)) (own : laid (lineTexts (eventLines t)) ≡ t) where
   rises : fallIn t ≡ 0
-  rises = log-no-fall t ascends
+  rises = lines-no-fall _ ascends
 
   with-empty : mergedText t [] ≡ t
   unfolding mergedText mergedLines
@@ -147,7 +142,7 @@ module _ (t : List ℕ) (n : ℕ) (accepted : judgeLog t ≡ Judged.Accepted n) 
   short : length t ≤ textLimit
   short = accepted-within t n accepted .short
 
-  pub own-stays : Stays t
+  own-stays : Stays t
   own-stays = record {
     rises = rises;
     with-empty = with-empty;

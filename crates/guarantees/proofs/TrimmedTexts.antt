@@ -6,16 +6,17 @@ use mathlib.Core.List.{List, [], _∷_}
 use Prim.Native.Nat.{ℕ, zero, suc, _-_}
 use native.Mathlib.Omega.{arith}
 use lib.Dec.{eqb}
-use lib.ListN.{length, getD, take, drop}
+use lib.ListN.{length, drop}
 use Rattle.buffers.proofs.Choice.{by-cond, and-left}
-use Rattle.chars.specs.Utf8.{charAt, after, utf8From, utf8, starts}
+use Rattle.chars.specs.Utf8.{charAt, after, utf8From, utf8}
 use Rattle.chars.specs.White.{white, widthOf, whiteAt, orPast, trimFrom, trimStart, trimEnd, trim}
 use Rattle.chars.specs.declared.Step.{Step}
 use Rattle.chars.specs.declared.Step.the-variants.{Char, Bad}
-use Rattle.chars.proofs.Boundary.{starts-low, utf8-append}
-use Rattle.chars.proofs.Trimming.{white-starts, trim-start-stays, trim-end-split, trim-part}
+use Rattle.chars.proofs.Boundary.{utf8-append}
+use Rattle.chars.proofs.Trimming.{blank-starts, trim-end-split, trim-part}
 use Rattle.cuts.specs.Split.{onto}
 use Rattle.sorting.specs.Order.{Each}
+use Rattle.sorting.proofs.EachLaws.{each-take, each-drop}
 use Rattle.logs.specs.Lines.{linesOf}
 
 -- ---- a text that is UTF-8 is so when it is trimmed
@@ -31,15 +32,6 @@ utf8-trim-from zero (a ∷ r) h = go (charAt (a ∷ r)) h (λ k. utf8-trim-from 
     go (Char c zero) e ih = by-cond (λ (w : ℕ). utf8 (orPast w (a ∷ r) (λ n. trimFrom n r)) ≡ true) (white c) 0 0 (λ _. h) (λ _. h)
     go (Char c (suc n)) e ih = by-cond (λ (w : ℕ). utf8 (orPast w (a ∷ r) (λ n. trimFrom n r)) ≡ true) (white c) (suc n) 0 (λ _. ih n (let z : suc n - 1 ≡ n = omega arith in rw z at e)) (λ _. h)
     go Bad e ih = h
-
--- what is taken off the end begins a character
-blank-starts : (w : List ℕ) → trimStart w ≡ [] → starts (getD w 0 0) ≡ true
-blank-starts [] e = starts-low 0 (omega arith)
-blank-starts (a ∷ r) e = go (whiteAt (a ∷ r)) refl
-  where
-    go : (n : ℕ) → whiteAt (a ∷ r) ≡ n → starts a ≡ true
-    go zero z = let y : _≡_ {A = ℕ} 1 0 = ap (λ (l : List ℕ). length (take 1 l)) (sym (trim-start-stays (a ∷ r) z) ∙ e) in absurd (omega arith)
-    go (suc n) z = white-starts (a ∷ r) (omega arith)
 
 utf8-trim-end : (s : List ℕ) → utf8 s ≡ true → utf8 (trimEnd s) ≡ true
 utf8-trim-end s h =
@@ -64,19 +56,6 @@ lines-feedless (a ∷ r) = by-cond (Each Feedless) (eqb a 10) ([] ∷ linesOf r)
     go : eqb a 10 ≡ false → (xs : List (List ℕ)) → Each Feedless xs → Each Feedless (onto a xs)
     go e [] h = ((e, tt), tt)
     go e (x ∷ xs) h = ((e, h .0), h .1)
-
-module _ {A : Type 0} (P : A → Type 0) where
-  each-take : (n : ℕ) (xs : List A) → Each P xs → Each P (take n xs)
-  unfolding Each
-  each-take zero xs h = tt
-  each-take (suc n) [] h = tt
-  each-take (suc n) (x ∷ xs) h = (h .0, each-take n xs (h .1))
-
-  each-drop : (n : ℕ) (xs : List A) → Each P xs → Each P (drop n xs)
-  unfolding Each
-  each-drop zero xs h = h
-  each-drop (suc n) [] h = tt
-  each-drop (suc n) (x ∷ xs) h = each-drop n xs (h .1)
 
 pub trim-feedless : (x : List ℕ) → Feedless x → Feedless (trim x)
 trim-feedless x h = rw (trim-part x) (each-take _ (length (trim x)) (drop (length x - length (trimStart x)) x) (each-drop _ (length x - length (trimStart x)) x h))

@@ -29,13 +29,13 @@ pub record Mergeable (first second : List ℕ) (m n : ℕ) : Type 0 where
   pub short : length (mergedText first second) ≤ textLimit
 
 -- the time of an event line, as the integer that it stands for
-abbrev pub timeOf : EventLine → ℤ
-timeOf l = untwos (l .event .time)
+abbrev pub signedTime : EventLine → ℤ
+signedTime l = untwos (l .event .time)
 
 -- no time is above a later one
 unfoldable pub Rises : List EventLine → Type 0
 Rises [] = Unit
-Rises (l ∷ ls) = Each (λ (later : EventLine). timeOf l ≤ℤ timeOf later) ls × Rises ls
+Rises (l ∷ ls) = Each (λ (later : EventLine). signedTime l ≤ℤ signedTime later) ls × Rises ls
 
 -- xs is ys with some of its elements left out, or none
 abbrev pub Subsequence : {A : Type 0} → List A → List A → Type 0

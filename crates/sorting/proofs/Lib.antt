@@ -1,4 +1,5 @@
 pub mod OrderLaws
+pub mod EachLaws
 pub mod Sorted
 pub mod MergeLaws
 mod LoopLaws

@@ -1,8 +1,8 @@
--- Merging two sorted runs sorts them as one list.
+-- Merging two sorted runs sorts them as one list, and each run keeps its order.
 -- Assumes nothing.
 use mathlib.Core.Path.{_≡_, refl, sym, ap, _∙_}
 use mathlib.Core.Bool.{Bool, true, false}
-use mathlib.Core.List.{List, [], _∷_, _++_}
+use mathlib.Core.List.{List, [], _∷_, _++_, Sublistᴰ, Sublistᴰ·cons, Sublistᴰ·cons-cons, Sublistᴰ·nil-sublist, Sublistᴰ·refl}
 use Prim.Native.Nat.{ℕ, zero, suc}
 use native.Mathlib.Omega.{arith}
 use lib.ListN.{length, getD}
@@ -94,3 +94,21 @@ module _ {A : Type 0} (key : A → List ℕ) where
       → precedes (key (getD ys 0 d)) (key (getD xs n d)) ≡ false → mergeBy key xs ys ≡ xs ++ ys
   merge-in-order xs [] d n m l k h e = absurd (omega arith)
   merge-in-order xs (y ∷ ys) d n m l k h e = merge-apart xs y ys (before-none y d xs n l h e)
+
+  -- ---- each run keeps its order
+
+  abbrev Kept : List A → List A → Type 0
+  Kept xs ys = Sublistᴰ xs (mergeBy key xs ys) × Sublistᴰ ys (mergeBy key xs ys)
+
+  kept-more : (x : A) (xs : List A) → ((ys : List A) → Kept xs ys) → (ys : List A) → Kept (x ∷ xs) ys
+  kept-more x xs ih [] = rw (merge-end (x ∷ xs)) (Sublistᴰ·refl (x ∷ xs), Sublistᴰ·nil-sublist (x ∷ xs))
+  kept-more x xs ih (y ∷ ys) = go (precedes (key y) (key x)) refl (kept-more x xs ih ys)
+    where
+      go : (t : Bool) → precedes (key y) (key x) ≡ t → Kept (x ∷ xs) ys → Kept (x ∷ xs) (y ∷ ys)
+      go true e k = rw (merge-right x y xs ys e) (Sublistᴰ·cons (k .0), Sublistᴰ·cons-cons refl (k .1))
+      go false e k = rw (merge-left x y xs ys e) (Sublistᴰ·cons-cons refl (ih (y ∷ ys) .0), Sublistᴰ·cons (ih (y ∷ ys) .1))
+
+  pub merge-keeps : (xs ys : List A) → Sublistᴰ xs (mergeBy key xs ys) × Sublistᴰ ys (mergeBy key xs ys)
+  unfolding mergeBy
+  merge-keeps [] ys = (Sublistᴰ·nil-sublist ys, Sublistᴰ·refl ys)
+  merge-keeps (x ∷ xs) ys = kept-more x xs (merge-keeps xs) ys

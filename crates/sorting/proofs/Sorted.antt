@@ -3,26 +3,15 @@
 -- Assumes nothing.
 use mathlib.Core.Path.{_≡_, refl, sym, ap, subst, _∙_}
 use mathlib.Core.Bool.{Bool, true, false, cond, false≢true}
-use mathlib.Core.List.{List, [], _∷_, map, List·Permᴰ, List·Permᴰ·nil, List·Permᴰ·cons, List·Permᴰ·swap, List·Permᴰ·trans, Permᴰ·refl}
+use mathlib.Core.List.{List, [], _∷_, _++_, map, List·Permᴰ, List·Permᴰ·nil, List·Permᴰ·cons, List·Permᴰ·swap, List·Permᴰ·trans, Permᴰ·refl}
 use Prim.Native.Nat.{ℕ, suc}
 use lib.ListN.{length}
 use Rattle.buffers.specs.Same.{same}
 use Rattle.buffers.proofs.Equal.{same-true}
 use Rattle.buffers.proofs.Choice.{by-cond}
 use Rattle.sorting.specs.Order.{precedes, Each, insert, sortBy, Ascends, Distinct, ofKey}
+use Rattle.sorting.proofs.EachLaws.{each-map, each-permuted}
 use Rattle.sorting.proofs.OrderLaws.{precedes-irreflexive, precedes-transitive, precedes-asymmetric, precedes-total, follows}
-
-pub each-map : {A : Type 0} (P Q : A → Type 0) → ((x : A) → P x → Q x) → (xs : List A) → Each P xs → Each Q xs
-unfolding Each
-each-map P Q f [] h = tt
-each-map P Q f (x ∷ xs) h = (f x (h .0), each-map P Q f xs (h .1))
-
-each-permuted : {A : Type 0} (P : A → Type 0) {xs ys : List A} → List·Permᴰ xs ys → Each P xs → Each P ys
-unfolding Each
-each-permuted P List·Permᴰ·nil h = tt
-each-permuted P (List·Permᴰ·cons e d) h = (subst P e (h .0), each-permuted P d (h .1))
-each-permuted P (List·Permᴰ·swap e f) h = (subst P f (h .1 .0), (subst P e (h .0), h .1 .1))
-each-permuted P (List·Permᴰ·trans d e) h = each-permuted P e (each-permuted P d h)
 
 module _ {A : Type 0} (key : A → List ℕ) where
   pub insert-behind : (a b : A) (xs : List A) → precedes (key b) (key a) ≡ true → insert key a (b ∷ xs) ≡ b ∷ insert key a xs
@@ -160,6 +149,16 @@ module _ {A : Type 0} (key : A → List ℕ) where
           absurd (false≢true (sym (precedes-irreflexive (key a)) ∙ (rw r at e)))
       go e true p false q = refl
       go e false p t q = refl
+
+  pub of-key-append : (k : List ℕ) (xs ys : List A) → ofKey key k (xs ++ ys) ≡ ofKey key k xs ++ ofKey key k ys
+  unfolding ofKey
+  of-key-append k [] ys = refl
+  of-key-append k (x ∷ xs) ys = go (same (key x) k) (of-key-append k xs ys)
+    where
+      go : (t : Bool) → ofKey key k (xs ++ ys) ≡ ofKey key k xs ++ ofKey key k ys
+          → cond t (x ∷ ofKey key k (xs ++ ys)) (ofKey key k (xs ++ ys)) ≡ cond t (x ∷ ofKey key k xs) (ofKey key k xs) ++ ofKey key k ys
+      go true e = ap (λ (l : List A). x ∷ l) e
+      go false e = e
 
   pub sort-stable : (k : List ℕ) (xs : List A) → ofKey key k (sortBy key xs) ≡ ofKey key k xs
   unfolding sortBy ofKey

@@ -1,9 +1,9 @@
 -- `exports::lulzhemor_merge` meets its contract: what `merge` ensures, its answer as a number. Assumes nothing.
-use mathlib.Core.Path.{sym, ap, subst, _∙_}
+use mathlib.Core.Path.{sym, ap, _∙_}
 use native.Mathlib.Omega.{arith}
 use borrow.Author.Needs.{needs}
 use Rattle.exports.specs.Answer.{ofMerged}
-use Rattle.exports.proofs.MergeSizes.{SmallMerged, merge-small}
+use Rattle.exports.proofs.MergeSizes.{merge-refusal-small}
 use Rattle.exports.proofs.lulzhemor_merge.Statement.{statement}
 use Rattle.exports.proofs.lulzhemor_merge.Tie as tie
 
@@ -25,13 +25,13 @@ add-result c = search needs
 mul-result : tie.Need-mul-result
 mul-result c =
     let w = c .before .before .before .before .before .before .before .before .before .before .before .merge .ensures in
-    let small = subst SmallMerged (sym (w .answer) ∙ c .before .number .given .1) (merge-small _ _ _ _ _ (c .before .before .before .before .before .before .before .before .before .before .before .before .before .before .before .before .before .before .before .before .before .before .args .out .now)) in
+    let small = merge-refusal-small _ _ _ _ _ (c .before .before .before .before .before .before .before .before .before .before .before .before .before .before .before .before .before .before .before .before .before .before .args .out .now) (sym (w .answer) ∙ c .before .number .given .1) in
     omega (arith, small .0, small .1)
 
 add-result-2 : tie.Need-add-result-2
 add-result-2 c =
     let w = c .before .before .before .before .before .before .before .before .before .before .before .merge .ensures in
-    let small = subst SmallMerged (sym (w .answer) ∙ c .before .number .given .1) (merge-small _ _ _ _ _ (c .before .before .before .before .before .before .before .before .before .before .before .before .before .before .before .before .before .before .before .before .before .before .args .out .now)) in
+    let small = merge-refusal-small _ _ _ _ _ (c .before .before .before .before .before .before .before .before .before .before .before .before .before .before .before .before .before .before .before .before .before .before .args .out .now) (sym (w .answer) ∙ c .before .number .given .1) in
     omega (arith, small .0, small .1)
 
 cast-result-2 : tie.Need-cast-result-2
@@ -43,7 +43,7 @@ mul-result-2 c = search needs
 add-result-3 : tie.Need-add-result-3
 add-result-3 c =
     let w = c .before .before .before .before .before .before .before .before .before .before .before .merge .ensures in
-    let small = subst SmallMerged (sym (w .answer) ∙ c .before .number .given .1) (merge-small _ _ _ _ _ (c .before .before .before .before .before .before .before .before .before .before .before .before .before .before .before .before .before .before .before .before .before .before .args .out .now)) in
+    let small = merge-refusal-small _ _ _ _ _ (c .before .before .before .before .before .before .before .before .before .before .before .before .before .before .before .before .before .before .before .before .before .before .args .out .now) (sym (w .answer) ∙ c .before .number .given .1) in
     omega (arith, small .0, small .1)
 
 same-length : tie.Need-same-length
