@@ -3,7 +3,7 @@
 //! readings state of an answer is asserted here: the oracle must give it.
 
 use crate::cases::Cases;
-use crate::grammar::Grammar;
+use crate::grammar::{Grammar, with_time};
 use crate::hand::Hand;
 use crate::lines::{HEAD, filled, random_line};
 use oracle::limits::{self, LINE, TEXT};
@@ -374,10 +374,7 @@ fn random_log(grammar: &mut Grammar, faults: usize) -> String {
         let line = if faulty { random_line(grammar) } else { grammar.line() };
         time += grammar.random.below(3) as i32;
         time -= if grammar.random.once_in(12) { 2 } else { 0 };
-        // The line's own time stands behind the first `@`, before a space.
-        let from = line.find('@').map_or(0, |at| at + 1);
-        let to = line[from..].find(char::is_whitespace).map_or(from, |at| from + at);
-        log += &format!("{}{}{}", &line[..from], spelled(grammar, time), &line[to..]);
+        log += &with_time(&line, &spelled(grammar, time));
         log += *grammar.random.pick(&ENDS);
     }
     log
