@@ -145,12 +145,12 @@ pub fn rows(word: &str) {
         "\n| merge | lines | bytes | Rust ns to a line | judge twice and copy | merge | by judge and copy | Rust by merge | merge ns to a byte |"
     );
     println!("|---|---:|---:|---:|---:|---:|---:|---:|---:|");
-    for (name, sizes) in MERGED {
-        for bytes in sizes {
-            if format!("merge log {name}").contains(word) {
-                row(name, &Pair::of(name, *bytes));
-            }
-        }
+    let named = MERGED
+        .iter()
+        .filter(|(name, _)| format!("merge log {name}").contains(word));
+    let pairs = named.flat_map(|(name, sizes)| sizes.iter().map(move |bytes| (name, *bytes)));
+    for (name, bytes) in pairs {
+        row(name, &Pair::of(name, bytes));
     }
 }
 

@@ -122,20 +122,30 @@ static void merging(void) {
     CHECK(lulzhemor_merge(TABLES, out, 0, BYTES(""), BYTES(" \n\t")) == 0 && wrote("") && used(0, 0));
 }
 
-/* A refusal leaves the output, and but for refusal 1 clears the tables. */
+static bool is_old(const uint8_t *bytes, size_t n) {
+    for (size_t i = 0; i < n; i++)
+        if (bytes[i] != 77) return false;
+    return true;
+}
+
+/* Two logs are refused so, with an output of so many bytes: all of it is as it was, and the tables are cleared. */
+static bool refuses(size_t size, const uint8_t *first, size_t first_length, const uint8_t *second, size_t second_length, unsigned number,
+                    unsigned log, uint32_t line) {
+    static uint8_t room[LULZHEMOR_TEXT_LIMIT + 1];
+    memset(room, 77, sizeof room);
+    fill();
+    uint64_t r = lulzhemor_merge(TABLES, room, size, first, first_length, second, second_length);
+    return refused(r, number, log, line) && is_old(room, sizeof room) && used(0, 0);
+}
+
 static void merging_refused(void) {
-    fill();
-    CHECK(refused(lulzhemor_merge(TABLES, out, strlen(ONE) - 1, BYTES(ONE), BYTES("")), LULZHEMOR_OUTPUT_TOO_SHORT, 0, 0));
-    CHECK(wrote("") && used(0, 0));
-    fill();
-    CHECK(refused(lulzhemor_merge(TABLES, out, sizeof out, BYTES(TWO "\n" ONE), BYTES(TWO ONE)), LULZHEMOR_TIMES_FALL_IN_FIRST, 1, 3));
-    CHECK(wrote("") && used(0, 0));
-    fill();
-    CHECK(refused(lulzhemor_merge(TABLES, out, sizeof out, BYTES(TWO TWO), BYTES(TWO ONE)), LULZHEMOR_TIMES_FALL_IN_SECOND, 2, 2));
-    CHECK(wrote("") && used(0, 0));
-    CHECK(refused(lulzhemor_merge(TABLES, out, sizeof out, BYTES(TWO ONE), BYTES(TWO "x")), LULZHEMOR_NO_AT, 2, 2));
-    CHECK(refused(lulzhemor_merge(TABLES, out, sizeof out, BYTES("\xff"), BYTES("x")), LULZHEMOR_NOT_UTF8, 1, 0));
-    CHECK(wrote(""));
+    size_t n = LULZHEMOR_TEXT_LIMIT;
+    CHECK(refuses(strlen(ONE) - 1, BYTES(ONE), BYTES(""), LULZHEMOR_OUTPUT_TOO_SHORT, 0, 0));
+    CHECK(refuses(n, BYTES(TWO "\n" ONE), BYTES(TWO ONE), LULZHEMOR_TIMES_FALL_IN_FIRST, 1, 3));
+    CHECK(refuses(n, BYTES(TWO TWO), BYTES(TWO ONE), LULZHEMOR_TIMES_FALL_IN_SECOND, 2, 2));
+    CHECK(refuses(n, BYTES(TWO ONE), BYTES(TWO "x"), LULZHEMOR_NO_AT, 2, 2));
+    CHECK(refuses(n, BYTES("\xff"), BYTES("x"), LULZHEMOR_NOT_UTF8, 1, 0));
+    /* Refusal 1 leaves the tables too. */
     fill();
     for (size_t each = 0; each < 3; each++) {
         uint64_t r = lulzhemor_merge(kinds, LULZHEMOR_NODES - (each == 0), numbers, LULZHEMOR_NODES - (each == 1), texts,
@@ -153,31 +163,22 @@ static size_t widened(uint8_t *to, const char *before, const char *each, size_t 
     return n + strlen(behind);
 }
 
-static bool is_old(const uint8_t *bytes, size_t n) {
-    for (size_t i = 0; i < n; i++)
-        if (bytes[i] != 77) return false;
-    return true;
-}
-
 /* Logs at the limit: one that merges into as many bytes as it has, and one whose last line lacks its line feed. */
 static void merging_long(void) {
     static uint8_t log[LULZHEMOR_TEXT_LIMIT + 1], room[LULZHEMOR_TEXT_LIMIT + 1];
     size_t n = LULZHEMOR_TEXT_LIMIT;
     CHECK(widened(log, "", ONE, 5040, "@1 ::\"\"::kkkk()\n") == n);
     memset(room, 77, sizeof room);
-    CHECK(refused(lulzhemor_merge(TABLES, room, n - 1, log, n, BYTES("")), LULZHEMOR_OUTPUT_TOO_SHORT, 0, 0) && room[0] == 77);
     CHECK(lulzhemor_merge(TABLES, room, sizeof room, BYTES(""), log, n) == n && memcmp(room, log, n) == 0 && room[n] == 77);
+    CHECK(refuses(n - 1, log, n, BYTES(""), LULZHEMOR_OUTPUT_TOO_SHORT, 0, 0));
     CHECK(widened(log, "", ONE, 5040, "@1 ::\"\"::kkkkk()") == n);
-    memset(room, 77, sizeof room);
-    fill();
-    CHECK(refused(lulzhemor_merge(TABLES, room, sizeof room, log, n, BYTES("")), LULZHEMOR_MERGED_TOO_LONG, 0, 0) && used(0, 0));
-    CHECK(refused(lulzhemor_merge(TABLES, room, 0, log, n, BYTES("")), LULZHEMOR_MERGED_TOO_LONG, 0, 0));
-    CHECK(refused(lulzhemor_merge(TABLES, room, sizeof room, log, n + 1, BYTES("x")), LULZHEMOR_TEXT_TOO_LONG, 1, 0));
-    CHECK(refused(lulzhemor_merge(TABLES, room, sizeof room, BYTES(""), log, n + 1), LULZHEMOR_TEXT_TOO_LONG, 2, 0));
+    CHECK(refuses(n + 1, log, n, BYTES(""), LULZHEMOR_MERGED_TOO_LONG, 0, 0));
+    CHECK(refuses(0, log, n, BYTES(""), LULZHEMOR_MERGED_TOO_LONG, 0, 0));
+    CHECK(refuses(n + 1, log, n + 1, BYTES("x"), LULZHEMOR_TEXT_TOO_LONG, 1, 0));
+    CHECK(refuses(n + 1, BYTES(""), log, n + 1, LULZHEMOR_TEXT_TOO_LONG, 2, 0));
     memset(log, '\n', n - 1);
     log[n - 1] = 'x';
-    CHECK(refused(lulzhemor_merge(TABLES, room, sizeof room, BYTES(""), log, n), LULZHEMOR_NO_AT, 2, LULZHEMOR_TEXT_LIMIT));
-    CHECK(is_old(room, sizeof room));
+    CHECK(refuses(n + 1, BYTES(""), log, n, LULZHEMOR_NO_AT, 2, LULZHEMOR_TEXT_LIMIT));
 }
 
 static void reading(void) {

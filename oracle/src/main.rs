@@ -18,7 +18,8 @@
 //!     oracle batch              one request on each line: SUBCOMMAND HEX [ARGUMENT];
 //!                               one answer on each line: the hex of what the subcommand prints
 //!
-//! `refused N` stands for any other refusal. Hex of no bytes is `-`.
+//! `refused N` stands for any other refusal. Hex of no bytes is `-`. Linux takes no argument of
+//! over 131,071 bytes, so a second log of over 65,535 bytes can be merged through `batch` alone.
 
 use oracle::{answers, facts, hex};
 use std::io::{self, BufRead, Read, Write};

@@ -1,6 +1,7 @@
 //! Two logs to be merged: mostly logs whose times rise, so that they merge; falls, faults, texts at the limits, and logs of any kind.
 
 use crate::answer::{Ask, Lent, NODES, Question, TEXTS};
+use crate::grammar::with_time;
 use crate::maker::Maker;
 use crate::questions;
 use crate::random::Random;
@@ -127,9 +128,7 @@ impl Maker {
         let any = self.random.once_in(60);
         loop {
             let line = if any { self.any_line() } else { self.line() };
-            let from = line.find('@').map_or(0, |at| at + 1);
-            let to = line[from..].find(char::is_whitespace).map_or(from, |at| from + at);
-            let line = format!("{}{spelled}{}", &line[..from], &line[to..]);
+            let line = with_time(&line, &spelled);
             if any || limits::line(line.as_bytes()).is_ok_and(|event| event.is_some()) {
                 return line;
             }

@@ -29,8 +29,7 @@ mod c {
     }
 }
 
-/// The least lengths of the tables.
-/// Entries behind, which no call may touch.
+/// Entries behind a table or an output, which no call may touch.
 const BEHIND: usize = 16;
 /// What stands in tables and outputs before a call.
 const OLD: u8 = 77;

@@ -85,6 +85,14 @@ const UPSETTING: [&str; 8] = ["\"", "\"x", "::\"q", "a\"b", "(", "]", "{", "\\"]
 const PARTS: [&str; 7] = ["Dig", "Action", "A", "", " B ", "é", ":"];
 const KINDS: [&str; 8] = ["request", "response", "k", "k", "a b", "::k", "é", "k)"];
 
+/// The line with this as its time: in place of what stands behind the first `@`, or else at the
+/// start, up to whitespace.
+pub fn with_time(line: &str, spelled: &str) -> String {
+    let from = line.find('@').map_or(0, |at| at + 1);
+    let to = line[from..].find(char::is_whitespace).map_or(from, |at| from + at);
+    format!("{}{spelled}{}", &line[..from], &line[to..])
+}
+
 pub struct Grammar {
     pub random: Random,
 }

@@ -3,7 +3,7 @@
 //! readings state of an answer is asserted here: the oracle must give it.
 
 use crate::cases::Cases;
-use crate::grammar::Grammar;
+use crate::grammar::{Grammar, with_time};
 use crate::hand::Hand;
 use crate::lines::{HEAD, filled, random_line};
 use oracle::limits::{self, LINE, TEXT};
@@ -22,8 +22,10 @@ pub fn make(cases: &mut Cases, hand: &Hand) {
     signs(cases);
     falls(cases);
     falls_and_refusals(cases);
-    refusals_by_log(cases, hand);
+    refusals_by_log(cases);
+    refusals_of_lines(cases, hand);
     sizes(cases);
+    dropped(cases);
     large(cases);
     trimmed(cases);
     marks(cases);
@@ -207,7 +209,7 @@ fn falls_and_refusals(cases: &mut Cases) {
 }
 
 /// All of the first log's before any of the second's.
-fn refusals_by_log(cases: &mut Cases, hand: &Hand) {
+fn refusals_by_log(cases: &mut Cases) {
     let long = vec![b' '; TEXT + 1];
     let late = format!("{}x", "\n".repeat(6));
     for second in [&b""[..], b"x", b"\xff", &long] {
@@ -223,6 +225,11 @@ fn refusals_by_log(cases: &mut Cases, hand: &Hand) {
     let deep = format!("@0 {HEAD}(v:{}1{})", "[".repeat(129), "]".repeat(129));
     refuses(cases, deep.as_bytes(), b"x", (24, 1, 1));
     refuses(cases, log("5a").as_bytes(), format!("\n{deep}").as_bytes(), (24, 2, 2));
+}
+
+/// The lines of `hand` in either log: a refusal of the first comes before the second's, and one of
+/// the second before a fall.
+fn refusals_of_lines(cases: &mut Cases, hand: &Hand) {
     let (fall, front) = (log("5a 4b").into_bytes(), log("0a").into_bytes());
     for faulty in hand.list("lines") {
         let _ = add(cases, 1, LONG_OUTPUT, &[&front, &faulty[..], b"\n"].concat(), b"x");
@@ -252,7 +259,11 @@ fn sizes(cases: &mut Cases) {
     refuses(cases, most.as_bytes(), log("9a").as_bytes(), MERGED_TOO_LONG);
     refuses(cases, open.as_bytes(), open.as_bytes(), MERGED_TOO_LONG);
     refuses(cases, open.as_bytes(), log("2a 1b").as_bytes(), (46, 2, 2));
-    // What is dropped does not count: here half of either log.
+    merges(cases, &format!("\u{feff}{}", full(TEXT - 3)), "", &full(TEXT - 3));
+}
+
+/// What is dropped does not count: here half of either log.
+fn dropped(cases: &mut Cases) {
     let half = full(TEXT / 2);
     let padded = half.clone() + &"\n".repeat(TEXT / 2);
     let wide = half.replacen('\n', &format!("{}\n", " ".repeat(TEXT / 2)), 1);
@@ -260,7 +271,6 @@ fn sizes(cases: &mut Cases) {
         merges(cases, log, &padded, &half.repeat(2));
         refuses(cases, log.as_bytes(), full(TEXT / 2 + 1).as_bytes(), MERGED_TOO_LONG);
     }
-    merges(cases, &format!("\u{feff}{}", full(TEXT - 3)), "", &full(TEXT - 3));
     refuses(cases, half.as_bytes(), full(TEXT / 2 + 1).as_bytes(), MERGED_TOO_LONG);
 }
 
@@ -323,45 +333,54 @@ fn short_tables(cases: &mut Cases) {
     let long = vec![b' '; TEXT + 1];
     let (accepted, fall) = (log("5a"), log("5a 4b"));
     let logs: [&[u8]; 6] = [b"", accepted.as_bytes(), fall.as_bytes(), b"\nx", b"\xff", &long];
-    for op in 3..=5 {
-        for (index, first) in logs.iter().enumerate() {
-            for room in [0, LONG_OUTPUT] {
-                let second = logs[(index + 1) % logs.len()];
-                refused(cases, op, &input(room, first, second), TABLE_TOO_SHORT);
-                refused(cases, op, &input(room, first, first), TABLE_TOO_SHORT);
-            }
-        }
+    for (first, second) in logs.iter().zip(logs.iter().cycle().skip(1)) {
+        refuses_tables(cases, first, second);
+        refuses_tables(cases, first, first);
     }
 }
 
-/// Some results, which are judged, listed and merged again.
-pub fn results() -> Vec<String> {
-    let pairs = [
+/// With each table too short in turn, whatever the output is.
+fn refuses_tables(cases: &mut Cases, first: &[u8], second: &[u8]) {
+    for (op, room) in (3..=5).flat_map(|op| [(op, 0), (op, LONG_OUTPUT)]) {
+        refused(cases, op, &input(room, first, second), TABLE_TOO_SHORT);
+    }
+}
+
+/// Some logs that merge.
+fn pairs() -> [(String, String); 4] {
+    [
         (log("1a 3b"), log("2c 2d")),
         (format!("\u{feff}\n {}\r\n", line("5", "a")), line("+5", "b") + " tail"),
         (log("-2a -1b 0c"), log("-3d 7e")),
         (format!("{}\n", filled(LINE)), log("0a")),
-    ];
-    let merged = |(first, second): &(String, String)| {
+    ]
+}
+
+/// What they merge into, which is judged, listed and merged again.
+pub fn results() -> Vec<String> {
+    let merged = |(first, second): (String, String)| {
         merge::logs(first.as_bytes(), second.as_bytes(), TEXT).expect("logs that merge")
     };
-    pairs.iter().map(merged).collect()
+    pairs().into_iter().map(merged).collect()
 }
 
 fn again(cases: &mut Cases) {
-    for result in results() {
+    for ((first, second), result) in pairs().iter().zip(results()) {
+        merges(cases, first, second, &result);
         merges(cases, &result, "", &result);
         merges(cases, "", &result, &result);
         merges(cases, &result, "\n \n", &result);
     }
 }
 
-const TIMES: [&str; 4] = ["", "", "+", "00"];
+/// What may stand before a time that is not negative.
+const FRONTS: [&str; 4] = ["", "", "+", "00"];
+/// What stands behind a line.
 const ENDS: [&str; 8] = ["\n", "\n", "\n", "\r\n", "\n\n", "\n \r\n", "\n\u{3000}\n", "\u{85}\n"];
 
 /// A time, spelled in one of several ways.
 fn spelled(grammar: &mut Grammar, time: i32) -> String {
-    let front = if time < 0 { "" } else { *grammar.random.pick(&TIMES) };
+    let front = if time < 0 { "" } else { *grammar.random.pick(&FRONTS) };
     format!("{front}{time}")
 }
 
@@ -374,10 +393,7 @@ fn random_log(grammar: &mut Grammar, faults: usize) -> String {
         let line = if faulty { random_line(grammar) } else { grammar.line() };
         time += grammar.random.below(3) as i32;
         time -= if grammar.random.once_in(12) { 2 } else { 0 };
-        // The line's own time stands behind the first `@`, before a space.
-        let from = line.find('@').map_or(0, |at| at + 1);
-        let to = line[from..].find(char::is_whitespace).map_or(from, |at| from + at);
-        log += &format!("{}{}{}", &line[..from], spelled(grammar, time), &line[to..]);
+        log += &with_time(&line, &spelled(grammar, time));
         log += *grammar.random.pick(&ENDS);
     }
     log

@@ -121,10 +121,16 @@ fn random_pairs(t: &mut Tester) {
     }
 }
 
+/// A file that can be read.
+fn readable(t: &Tester) -> PathBuf {
+    let path = t.scratch.join("good");
+    fs::write(&path, event("1", "k")).expect("write");
+    path
+}
+
 /// Arguments of which one cannot be read, and what is said of it.
 fn unreadable(t: &mut Tester) {
-    let good = t.scratch.join("good");
-    fs::write(&good, event("1", "k")).expect("write");
+    let good = readable(t);
     let (folder, absent) = (t.scratch.clone(), t.scratch.join("absent\u{e9}"));
     let long = |size: usize| PathBuf::from("x".repeat(size));
     let said = |path: &PathBuf, why: &str| format!("{}: {why}\n", path.display());
@@ -142,7 +148,7 @@ fn unreadable(t: &mut Tester) {
             "a file's name: File name too long\n".to_string(),
         ),
     ] {
-        let name = &line[..line.len().min(40)];
+        let name: String = line.chars().take(40).collect();
         t.said(
             &format!("first: {name}"),
             &[path.clone().into(), good.clone().into()],
@@ -154,21 +160,25 @@ fn unreadable(t: &mut Tester) {
             &line,
         );
     }
+}
+
+/// Any number of arguments but two.
+fn wrong_calls(t: &mut Tester) {
+    let good = readable(t);
     let usage = "usage: merge_logs FIRST SECOND\n";
     for count in [0, 1, 3, 9] {
         let args = vec![OsString::from(&good); count];
         t.said(&format!("{count} arguments"), &args, usage);
     }
-    forbidden(t, good);
 }
 
 /// A file that its reader may not read.
-fn forbidden(t: &mut Tester, good: PathBuf) {
+fn forbidden(t: &mut Tester) {
     let secret = t.scratch.join("secret");
     fs::write(&secret, "").expect("write");
     fs::set_permissions(&secret, fs::Permissions::from_mode(0o000)).expect("set_permissions");
     let line = format!("{}: Permission denied\n", secret.display());
-    let [good, secret] = [good, secret].map(OsString::from);
+    let [good, secret] = [readable(t), secret].map(OsString::from);
     let both = [good.clone(), good.clone()];
     t.forbidden(
         "first: may not be read",
@@ -244,6 +254,8 @@ pub fn all(t: &mut Tester, text: &str) {
     known_sizes(t);
     random_pairs(t);
     unreadable(t);
+    forbidden(t);
+    wrong_calls(t);
     odd_inputs(t);
     outputs(t);
     manual::merging(t, text);

@@ -1,7 +1,9 @@
 //! Merges two logs into one: merge FIRST SECOND prints it, or the first refusal with its log and line.
 //! Exit status: 0 merged, 1 refused, 2 called in a wrong way, 3 reading or writing failed.
+use std::ffi::{OsStr, OsString};
 use std::fmt::Display;
-use std::io::Write;
+use std::fs::File;
+use std::io::{Read, Write};
 use std::process::exit;
 
 /// Says why there is no merged log, and ends with this status.
@@ -10,12 +12,18 @@ fn fail(status: i32, why: impl Display) -> ! {
     exit(status)
 }
 
-fn read(name: &str) -> Vec<u8> {
-    std::fs::read(name).unwrap_or_else(|why| fail(3, format!("{name}: {why}")))
+/// Reads no further than shows that a log is too long, since a file may never end.
+fn read(name: &OsStr) -> Vec<u8> {
+    let most = lulzhemor::TEXT_LIMIT as u64 + 1;
+    let mut log = Vec::new();
+    match File::open(name).and_then(|file| file.take(most).read_to_end(&mut log)) {
+        Ok(_) => log,
+        Err(why) => fail(3, format!("{}: {why}", name.display())),
+    }
 }
 
 fn main() {
-    let names: Vec<String> = std::env::args().skip(1).collect();
+    let names: Vec<OsString> = std::env::args_os().skip(1).collect();
     let [first, second] = names.as_slice() else {
         fail(2, "usage: merge FIRST SECOND");
     };
