@@ -16,10 +16,10 @@ use Rattle.guarantees.specs.Merging.{Rises}
 use Rattle.guarantees.proofs.MergeOrder.{lines-rise}
 
 -- a line that is named is not before the first
-not-before : (line last : ℕ) (xs : List (List ℕ)) → 0 < fallFrom line last xs → line ≤ fallFrom line last xs
+not-earlier : (line last : ℕ) (xs : List (List ℕ)) → 0 < fallFrom line last xs → line ≤ fallFrom line last xs
 unfolding fallFrom
-not-before line last [] h = absurd (omega arith)
-not-before line last (x ∷ xs) h = go (lineAnswer x) h (λ r. not-before (suc line) r xs)
+not-earlier line last [] h = absurd (omega arith)
+not-earlier line last (x ∷ xs) h = go (lineAnswer x) h (λ r. not-earlier (suc line) r xs)
   where
     go : (a : Answer) → 0 < fallAt line last a (λ r. fallFrom (suc line) r xs) → ((r : ℕ) → 0 < fallFrom (suc line) r xs → suc line ≤ fallFrom (suc line) r xs)
         → line ≤ fallAt line last a (λ r. fallFrom (suc line) r xs)
@@ -49,10 +49,10 @@ first-at line last zero (x ∷ xs) p h = (refl, go (lineAnswer x) h)
     go (event e) h =
         by-cond (λ (n : ℕ). n ≡ line + 0 → cond (ltb (rank (e .time)) last) line 0 ≡ line + 0) (ltb (rank (e .time)) last) line (fallFrom (suc line) (rank (e .time)) xs)
         (λ t z. rw t z)
-        (λ _ z. absurd (omega (arith, not-before (suc line) (rank (e .time)) xs (omega arith))))
+        (λ _ z. absurd (omega (arith, not-earlier (suc line) (rank (e .time)) xs (omega arith))))
         h
-    go blank h = absurd (omega (arith, not-before (suc line) last xs (omega arith)))
-    go (refused n) h = absurd (omega (arith, not-before (suc line) last xs (omega arith)))
+    go blank h = absurd (omega (arith, not-earlier (suc line) last xs (omega arith)))
+    go (refused n) h = absurd (omega (arith, not-earlier (suc line) last xs (omega arith)))
 first-at line last (suc k) (x ∷ xs) p h = go (lineAnswer x) h (λ r z. first-at (suc line) r k xs (omega arith) z)
   where
     same : line + suc k ≡ suc line + k

@@ -1,4 +1,5 @@
--- Two logs, one log: what is guaranteed of merging (document 02, A11). Each theorem is a few words that cite the file with the work.
+-- Two logs, one log: what is guaranteed of merging (document 02, A11). Each theorem is a few words that cite the file with the work. That a
+-- call meets its contract, on every input, is `merge-promised` in `EntryPoints`.
 -- Assumes nothing.
 use mathlib.Core.Path.{_≡_}
 use mathlib.Core.List.{List, _++_, List·Permᴰ}
