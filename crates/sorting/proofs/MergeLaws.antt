@@ -97,7 +97,7 @@ module _ {A : Type 0} (key : A → List ℕ) where
 
   -- ---- each run keeps its order
 
-  abbrev Kept : List A → List A → Type 0
+  abbrev pub Kept : List A → List A → Type 0
   Kept xs ys = Sublistᴰ xs (mergeBy key xs ys) × Sublistᴰ ys (mergeBy key xs ys)
 
   kept-more : (x : A) (xs : List A) → ((ys : List A) → Kept xs ys) → (ys : List A) → Kept (x ∷ xs) ys
@@ -108,7 +108,7 @@ module _ {A : Type 0} (key : A → List ℕ) where
       go true e k = rw (merge-right x y xs ys e) (Sublistᴰ·cons (k .0), Sublistᴰ·cons-cons refl (k .1))
       go false e k = rw (merge-left x y xs ys e) (Sublistᴰ·cons-cons refl (ih (y ∷ ys) .0), Sublistᴰ·cons (ih (y ∷ ys) .1))
 
-  pub merge-keeps : (xs ys : List A) → Sublistᴰ xs (mergeBy key xs ys) × Sublistᴰ ys (mergeBy key xs ys)
+  pub merge-keeps : (xs ys : List A) → Kept xs ys
   unfolding mergeBy
   merge-keeps [] ys = (Sublistᴰ·nil-sublist ys, Sublistᴰ·refl ys)
   merge-keeps (x ∷ xs) ys = kept-more x xs (merge-keeps xs) ys
