@@ -17,7 +17,7 @@ static uint8_t texts[LULZHEMOR_TEXTS];
 static uint8_t out[65536];
 static char line[LULZHEMOR_LINE_LIMIT + 1];
 static size_t length;
-static uint64_t answer;
+static uint64_t answer, sizes[LULZHEMOR_FRONT];
 
 #define TABLES kinds, sizeof kinds, numbers, LULZHEMOR_NODES, texts, sizeof texts
 
@@ -29,7 +29,7 @@ static void *judge(void *unused) {
 }
 
 static void *read_line(void *unused) {
-    answer = lulzhemor_read_line(TABLES, (const uint8_t *)line, length);
+    answer = lulzhemor_read_line(TABLES, sizes, (const uint8_t *)line, length);
     return unused;
 }
 

@@ -2,9 +2,9 @@
  * Lulzhemor: reads the .log format of the policy engine Dogwood. Every function here is proved to return, to stay inside what it is lent,
  * and to answer what its definition says, on every input. Nothing is kept between calls, nothing is allocated.
  *
- * Link with target/staticlib/libexports.a (`rt staticlib exports`), for x86-64 Linux.
+ * Link with target/staticlib/liblulzhemor.a (`rt staticlib lulzhemor`), for x86-64 Linux.
  *
- * What the caller sees to, for every pointer with its length:
+ * What the caller sees to, for every pointer with its length, and for an array, whose length stands in brackets:
  *   - it is not null, also where the length is 0;
  *   - so many entries may be read there, and written where the parameter is not const;
  *   - an output or table overlaps nothing else that is handed to the same call.
@@ -30,6 +30,12 @@ extern "C" {
 /* The least entries of a pack's kinds and of its numbers, and of its text bytes: refusal 1 below this. A longer table is used this far. */
 #define LULZHEMOR_NODES 8192
 #define LULZHEMOR_TEXTS 32768
+/* The entries of the array of sizes that lulzhemor_read_line is lent, and what they are. */
+#define LULZHEMOR_FRONT 2
+enum lulzhemor_front {
+    LULZHEMOR_FRONT_NODES = 0, /* how many nodes the pack has */
+    LULZHEMOR_FRONT_TEXTS = 1  /* how many text bytes */
+};
 /* A listing's output of so many bytes is never refused with 5: no event lists in more, by the law `line-short` in
  * crates/listing/proofs/Longest.antt. */
 #define LULZHEMOR_LISTING_ROOM 245867
@@ -41,6 +47,10 @@ extern "C" {
 
 #define LULZHEMOR_REFUSED (UINT64_C(1) << 32)
 
+/* What lulzhemor_read_line answers of a line that has an event, and of a blank one. lulzhemor_list_line answers the same of a blank one. */
+#define LULZHEMOR_EVENT UINT64_C(1)
+#define LULZHEMOR_BLANK UINT64_C(0)
+
 static inline bool lulzhemor_refused(uint64_t answer) { return answer >= LULZHEMOR_REFUSED; }
 
 /* A refusal's number, one of enum lulzhemor_refusal. */
@@ -51,10 +61,6 @@ static inline uint32_t lulzhemor_refusal_line(uint64_t answer) { return (uint32_
 
 /* The log of a refusal of lulzhemor_merge. */
 static inline unsigned lulzhemor_refusal_log(uint64_t answer) { return (unsigned)(answer >> 26) & 3; }
-
-/* The sizes of the pack that lulzhemor_read_line left: nodes, and text bytes. */
-static inline uint32_t lulzhemor_pack_nodes(uint64_t answer) { return (uint32_t)(answer & 65535); }
-static inline uint32_t lulzhemor_pack_texts(uint64_t answer) { return (uint32_t)(answer >> 16); }
 
 /* What each stands for: lulzhemor_refusal_text. */
 enum lulzhemor_refusal {
@@ -159,7 +165,8 @@ static inline uint32_t lulzhemor_text_length(uint64_t number) { return (uint32_t
 
 /* ---- Functions ----
  * Where tables are lent, refusal 1 changes none of them. After lulzhemor_read_line has read an event they hold its pack, and zeros up to their
- * bounds; after any other answer, zeros up to their bounds. What lies past the bounds never changes. A refusal never changes an output. */
+ * bounds; after any other answer, zeros up to their bounds. What lies past the bounds never changes. A refusal never changes an output, nor
+ * does a blank line. */
 
 /* Is the text UTF-8? */
 bool lulzhemor_is_utf8(const uint8_t *text, size_t text_len);
@@ -173,12 +180,12 @@ uint64_t lulzhemor_judge(uint8_t *kinds, size_t kinds_len, uint64_t *numbers, si
 uint64_t lulzhemor_merge(uint8_t *kinds, size_t kinds_len, uint64_t *numbers, size_t numbers_len, uint8_t *texts, size_t texts_len,
                          uint8_t *out, size_t out_len, const uint8_t *first, size_t first_len, const uint8_t *second, size_t second_len);
 
-/* Reads one line into a pack: its sizes (lulzhemor_pack_nodes, lulzhemor_pack_texts), 0 where the line is blank, or a refusal. A line feed
- * inside is whitespace. */
+/* Reads one line into a pack: LULZHEMOR_EVENT, and the pack's sizes are written; LULZHEMOR_BLANK; or a refusal. The sizes are an output: only
+ * an event changes them. A line feed inside is whitespace. */
 uint64_t lulzhemor_read_line(uint8_t *kinds, size_t kinds_len, uint64_t *numbers, size_t numbers_len, uint8_t *texts, size_t texts_len,
-                             const uint8_t *line, size_t line_len);
+                             uint64_t sizes[LULZHEMOR_FRONT], const uint8_t *line, size_t line_len);
 
-/* Writes the night listing of one line's event, which has this number: its bytes, 0 where the line is blank, or a refusal. */
+/* Writes the night listing of one line's event, which has this number: its bytes, LULZHEMOR_BLANK, or a refusal. */
 uint64_t lulzhemor_list_line(uint8_t *kinds, size_t kinds_len, uint64_t *numbers, size_t numbers_len, uint8_t *texts, size_t texts_len,
                              uint8_t *out, size_t out_len, const uint8_t *line, size_t line_len, uint64_t number);
 

@@ -9,6 +9,7 @@
 static uint8_t kinds[LULZHEMOR_NODES + 1];
 static uint64_t numbers[LULZHEMOR_NODES + 1];
 static uint8_t texts[LULZHEMOR_TEXTS + 1];
+static uint64_t sizes[LULZHEMOR_FRONT + 1];
 static uint8_t out[4096];
 static unsigned checks;
 
@@ -43,6 +44,7 @@ static void fill(void) {
     memset(texts, 77, sizeof texts);
     memset(out, 77, sizeof out);
     for (size_t i = 0; i <= LULZHEMOR_NODES; i++) numbers[i] = 77;
+    for (size_t i = 0; i <= LULZHEMOR_FRONT; i++) sizes[i] = 77;
 }
 
 /* The tables hold so many nodes and text bytes, zeros behind, and what stood past their bounds. */
@@ -68,6 +70,11 @@ static bool wrote(const char *text) {
     for (size_t i = n; i < sizeof out; i++)
         if (out[i] != 77) return false;
     return memcmp(out, text, n) == 0;
+}
+
+/* The array of sizes holds these, and what stood past it. */
+static bool sized(uint64_t nodes, uint64_t bytes) {
+    return sizes[LULZHEMOR_FRONT_NODES] == nodes && sizes[LULZHEMOR_FRONT_TEXTS] == bytes && sizes[LULZHEMOR_FRONT] == 77;
 }
 
 static bool node(size_t at, uint8_t kind, uint64_t number) { return kinds[at] == kind && numbers[at] == number; }
@@ -183,8 +190,7 @@ static void merging_long(void) {
 
 static void reading(void) {
     fill();
-    uint64_t r = lulzhemor_read_line(TABLES, BYTES(EVENT));
-    CHECK(!lulzhemor_refused(r) && lulzhemor_pack_nodes(r) == 26 && lulzhemor_pack_texts(r) == 75);
+    CHECK(lulzhemor_read_line(TABLES, sizes, BYTES(EVENT)) == LULZHEMOR_EVENT && sized(26, 75));
     CHECK(used(26, 75));
     CHECK(node(0, LULZHEMOR_INTEGER, 40) && node(1, LULZHEMOR_ENTITY, 0));
     CHECK(text_node(2, LULZHEMOR_TEXT, "Planner") && text_node(3, LULZHEMOR_TEXT, "night") && node(4, LULZHEMOR_ABSENT, 0));
@@ -198,11 +204,13 @@ static void reading(void) {
     CHECK(node(22, LULZHEMOR_RECORD, 1) && text_node(23, LULZHEMOR_TEXT, "dug") && node(24, LULZHEMOR_TRUE, 0));
     CHECK(node(25, LULZHEMOR_ARRAY, 0));
     fill();
-    CHECK(lulzhemor_read_line(TABLES, BYTES(" \r\n")) == 0 && used(0, 0));
-    CHECK(lulzhemor_read_line(TABLES, BYTES("@0 )(")) == LULZHEMOR_REFUSED + LULZHEMOR_EVENT_OUT_OF_ORDER);
+    CHECK(lulzhemor_read_line(TABLES, sizes, BYTES(" \r\n")) == LULZHEMOR_BLANK && used(0, 0) && sized(77, 77));
     fill();
-    r = lulzhemor_read_line(kinds, sizeof kinds, numbers, LULZHEMOR_NODES - 1, texts, sizeof texts, BYTES(EVENT));
-    CHECK(r == LULZHEMOR_REFUSED + LULZHEMOR_TABLE_TOO_SHORT && untouched());
+    CHECK(lulzhemor_read_line(TABLES, sizes, BYTES("@0 )(")) == LULZHEMOR_REFUSED + LULZHEMOR_EVENT_OUT_OF_ORDER);
+    CHECK(used(0, 0) && sized(77, 77));
+    fill();
+    uint64_t r = lulzhemor_read_line(kinds, sizeof kinds, numbers, LULZHEMOR_NODES - 1, texts, sizeof texts, sizes, BYTES(EVENT));
+    CHECK(r == LULZHEMOR_REFUSED + LULZHEMOR_TABLE_TOO_SHORT && untouched() && sized(77, 77));
 }
 
 static void listing(void) {
@@ -214,7 +222,7 @@ static void listing(void) {
     fill();
     uint64_t r = lulzhemor_list_line(TABLES, out, strlen(LISTING) - 1, BYTES(EVENT), 3);
     CHECK(r == LULZHEMOR_REFUSED + LULZHEMOR_OUTPUT_TOO_SHORT && wrote("") && used(0, 0));
-    CHECK(lulzhemor_list_line(TABLES, out, sizeof out, BYTES("\t"), 3) == 0 && wrote(""));
+    CHECK(lulzhemor_list_line(TABLES, out, sizeof out, BYTES("\t"), 3) == LULZHEMOR_BLANK && wrote(""));
     fill();
     r = lulzhemor_list_line(kinds, sizeof kinds, numbers, LULZHEMOR_NODES, texts, LULZHEMOR_TEXTS - 1, out, sizeof out, BYTES(EVENT), 3);
     CHECK(r == LULZHEMOR_REFUSED + LULZHEMOR_TABLE_TOO_SHORT && untouched() && wrote(""));

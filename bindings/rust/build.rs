@@ -1,4 +1,4 @@
-//! Links libexports.a, which `rt staticlib exports` writes. LULZHEMOR_LIB names another folder that has it.
+//! Links liblulzhemor.a, which `rt staticlib lulzhemor` writes. LULZHEMOR_LIB names another folder that has it.
 
 use std::path::PathBuf;
 
@@ -8,13 +8,13 @@ fn main() {
         Some(folder) => PathBuf::from(folder),
         None => PathBuf::from(env!("CARGO_MANIFEST_DIR")).join("../../target/staticlib"),
     };
-    let archive = folder.join("libexports.a");
+    let archive = folder.join("liblulzhemor.a");
     assert!(
         archive.exists(),
-        "{} is missing: run `rt staticlib exports`, or set LULZHEMOR_LIB",
+        "{} is missing: run `rt staticlib lulzhemor`, or set LULZHEMOR_LIB",
         archive.display()
     );
     println!("cargo:rerun-if-changed={}", archive.display());
     println!("cargo:rustc-link-search=native={}", folder.display());
-    println!("cargo:rustc-link-lib=static=exports");
+    println!("cargo:rustc-link-lib=static=lulzhemor");
 }

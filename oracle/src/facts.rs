@@ -1,5 +1,5 @@
-//! What documents 01 and design say of the Rust, checked by running it. A fact is a name (the
-//! input, as far as it can be printed), what the oracle gives, and what the paper states.
+//! What document 01 says of the Rust, and the odd cases of its reading, checked by running it. A
+//! fact is a name (the input, as far as it can be printed), what the oracle gives, and what is stated.
 
 use crate::limits::{LINE, TEXT};
 use crate::{answers, hex, ranges};

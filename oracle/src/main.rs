@@ -14,7 +14,7 @@
 //!     oracle trim               the trimmed text in hex, or `bad` where it is not UTF-8
 //!     oracle utf8               `valid` or `bad`
 //!     oracle ranges             rustc's name, then the ranges of both escape lists, ends not in
-//!     oracle selftest           checks what the papers say of the Rust
+//!     oracle selftest           checks what is said of the Rust, fact by fact
 //!     oracle batch              one request on each line: SUBCOMMAND HEX [ARGUMENT];
 //!                               one answer on each line: the hex of what the subcommand prints
 //!

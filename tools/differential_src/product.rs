@@ -1,9 +1,11 @@
-//! The product, linked as a static library (crate `exports`), with all that a call may do to what is lent to it.
+//! The product, linked as a static library (crate `lulzhemor`), with all that a call may do to what is lent to it.
 
 use differential::answer::{Answer, Ask, Lent, NODES, Question, TEXTS, Tables};
 
 #[rustfmt::skip]
 mod c {
+    use super::FRONT;
+
     unsafe extern "C" {
         pub fn lulzhemor_judge(
             kinds: *mut u8, kinds_len: usize, numbers: *mut u64, numbers_len: usize, texts: *mut u8, texts_len: usize,
@@ -11,7 +13,7 @@ mod c {
         ) -> u64;
         pub fn lulzhemor_read_line(
             kinds: *mut u8, kinds_len: usize, numbers: *mut u64, numbers_len: usize, texts: *mut u8, texts_len: usize,
-            line: *const u8, line_len: usize,
+            sizes: *mut [u64; FRONT], line: *const u8, line_len: usize,
         ) -> u64;
         pub fn lulzhemor_list_line(
             kinds: *mut u8, kinds_len: usize, numbers: *mut u64, numbers_len: usize, texts: *mut u8, texts_len: usize,
@@ -35,6 +37,10 @@ const BEHIND: usize = 16;
 const OLD: u8 = 77;
 const OLD_NUMBER: u64 = u64::from_ne_bytes([OLD; 8]);
 const REFUSED: u64 = 1 << 32;
+/// A pack's sizes: how many nodes, how many text bytes.
+const FRONT: usize = 2;
+const OLD_SIZES: [u64; FRONT] = [OLD_NUMBER; FRONT];
+const EVENT: u64 = 1;
 
 const ZEROS: [u8; TEXTS] = [0; TEXTS];
 const ZERO_NUMBERS: [u64; NODES] = [0; NODES];
@@ -43,6 +49,7 @@ pub struct Product {
     kinds: Vec<u8>,
     numbers: Vec<u64>,
     texts: Vec<u8>,
+    sizes: [u64; FRONT],
     out: Vec<u8>,
     places: Vec<u64>,
 }
@@ -68,6 +75,7 @@ impl Product {
             kinds: vec![0; NODES + BEHIND],
             numbers: vec![0; NODES + BEHIND],
             texts: vec![0; TEXTS + BEHIND],
+            sizes: OLD_SIZES,
             out: Vec::new(),
             places: Vec::new(),
         }
@@ -132,6 +140,7 @@ impl Product {
         self.kinds.fill(OLD);
         self.numbers.fill(OLD_NUMBER);
         self.texts.fill(OLD);
+        self.sizes = OLD_SIZES;
         let code = self.call(question, room);
         let answer = match question.ask {
             Ask::Judge if code < REFUSED => Answer::Events(code as usize),
@@ -140,12 +149,16 @@ impl Product {
             Ask::Merge => self.text_of(code, room),
             _ if code >= REFUSED => refused(code),
             _ if code == 0 => Answer::Blank,
-            Ask::Read => self.pack_of(code),
+            Ask::Read if code == EVENT => self.pack_of(),
+            Ask::Read => Answer::Broken(format!("answer {code:#x}")),
             _ => self.text_of(code, room),
         };
         let unwritten = code == 0 || code >= REFUSED;
         if matches!(question.ask, Ask::List(_) | Ask::Merge) && unwritten && !all_old(&self.out) {
             return Answer::Broken(format!("answer {code:#x}: the output is changed"));
+        }
+        if unwritten && self.sizes != OLD_SIZES {
+            return Answer::Broken(format!("answer {code:#x}: the sizes are changed"));
         }
         let left = match &answer {
             Answer::RefusedAt(1, _) | Answer::RefusedIn(1, ..) | Answer::Refused(1) => {
@@ -187,13 +200,13 @@ impl Product {
                 let (out, other, size) = (self.out.as_mut_ptr(), question.other.as_ptr(), question.other.len());
                 unsafe { c::lulzhemor_merge(kinds, k, numbers, n, texts, t, out, room, text, len, other, size) }
             }
-            _ => unsafe { c::lulzhemor_read_line(kinds, k, numbers, n, texts, t, text, len) },
+            _ => unsafe { c::lulzhemor_read_line(kinds, k, numbers, n, texts, t, &mut self.sizes, text, len) },
         }
     }
 
-    /// The pack in the tables; the counts may not pass them.
-    fn pack_of(&self, code: u64) -> Answer {
-        let (nodes, texts) = ((code & 65_535) as usize, (code >> 16) as usize);
+    /// The pack in the tables; the sizes may not pass them.
+    fn pack_of(&self) -> Answer {
+        let [nodes, texts] = self.sizes.map(|size| size as usize);
         if nodes > NODES || texts > TEXTS {
             return Answer::Broken(format!("{nodes} nodes, {texts} text bytes"));
         }

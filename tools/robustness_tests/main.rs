@@ -1,9 +1,10 @@
 //! Runs the two programs on inputs and outputs that a terminal seldom has: pieces of one byte, sizes at the limit, random bytes, files that
 //! cannot be read, outputs that fail. In every case a program must end by itself, what it wrote must be the oracle's answer, or as much
-//! of it as the output took, and on its error output may come what could not be done, and from the night listing nothing. The manual's
-//! examples and the stored night listings are cases too. Takes the paths of the night listing, the merging program, the manual and
-//! `nights.bin`; prints each case that failed, and how many there were.
+//! of it as the output took, and on its error output may come what could not be done, and from the night listing nothing. The examples of
+//! manual and format and the stored night listings are cases too. Takes the paths of the night listing, the merging program, the manual,
+//! the format and `nights.bin`; prints each case that failed, and how many there were.
 
+mod format;
 mod logs;
 mod manual;
 mod merges;
@@ -149,7 +150,7 @@ fn slow_outputs(t: &mut Tester) {
     t.slow_reader("a slow reader", &long);
 }
 
-fn listings(t: &mut Tester, manual: &str, stored: &[u8]) {
+fn listings(t: &mut Tester, manual: &str, format: &str, stored: &[u8]) {
     inputs(t);
     refused_logs(t);
     pieces(t);
@@ -164,6 +165,8 @@ fn listings(t: &mut Tester, manual: &str, stored: &[u8]) {
     manual::values(t, manual);
     manual::refusals(t, manual);
     manual::event(t, manual);
+    manual::values(t, format);
+    format::listings(t, format);
     nights::replay(t, stored);
 }
 
@@ -185,17 +188,17 @@ fn tested(program: &str, scratch: &Path, tests: impl FnOnce(&mut Tester)) -> boo
 
 fn main() {
     let args: Vec<String> = std::env::args().skip(1).collect();
-    let [lister, merger, manual, nights] = args.as_slice() else {
-        eprintln!("usage: robustness LISTER MERGER MANUAL NIGHTS");
+    let [lister, merger, manual, format, nights] = args.as_slice() else {
+        eprintln!("usage: robustness LISTER MERGER MANUAL FORMAT NIGHTS");
         exit(2);
     };
-    let text = fs::read_to_string(manual).expect("the manual");
+    let [manual, format] = [manual, format].map(|page| fs::read_to_string(page).expect("a page"));
     let stored = fs::read(nights).expect("the night listings");
     let scratch = std::env::temp_dir().join(format!("robustness-{}", std::process::id()));
     fs::create_dir_all(&scratch).expect("create_dir_all");
     fs::set_permissions(&scratch, fs::Permissions::from_mode(0o755)).expect("set_permissions");
-    let listed = tested(lister, &scratch, |t| listings(t, &text, &stored));
-    let merged = tested(merger, &scratch, |t| merges::all(t, &text));
+    let listed = tested(lister, &scratch, |t| listings(t, &manual, &format, &stored));
+    let merged = tested(merger, &scratch, |t| merges::all(t, &manual, &format));
     fs::remove_dir_all(&scratch).expect("remove_dir_all");
     if !(listed && merged) {
         exit(1);

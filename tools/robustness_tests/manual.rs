@@ -6,7 +6,7 @@ use crate::tester::{Case, Tester};
 use oracle::answers;
 
 /// The rows of a table below this head, as cells. Code loses its backticks.
-fn rows(manual: &str, head: &str) -> Vec<Vec<String>> {
+pub fn rows(manual: &str, head: &str) -> Vec<Vec<String>> {
     let below = manual.split(head).skip(1);
     let tables = below.map(|text| text.lines().skip(1).take_while(|row| row.starts_with('|')));
     let cells = |row: &str| {
@@ -19,19 +19,19 @@ fn rows(manual: &str, head: &str) -> Vec<Vec<String>> {
 }
 
 /// What a cell has as code, where it is nothing but that.
-fn code(cell: &str) -> Option<&str> {
+pub fn code(cell: &str) -> Option<&str> {
     cell.strip_prefix('`')?
         .strip_suffix('`')
         .filter(|code| !code.contains('`'))
 }
 
 /// Each piece of code in a cell.
-fn codes(cell: &str) -> Vec<&str> {
+pub fn codes(cell: &str) -> Vec<&str> {
     cell.split('`').skip(1).step_by(2).collect()
 }
 
 /// The text of the first block of this language.
-fn block<'a>(manual: &'a str, language: &str) -> &'a str {
+pub fn block<'a>(manual: &'a str, language: &str) -> &'a str {
     let text = manual
         .split(&format!("```{language}\n"))
         .nth(1)
@@ -49,7 +49,7 @@ fn node_number(cell: &str) -> u64 {
     }
 }
 
-/// The tables of values and escapes: each value as it is listed.
+/// The tables of values and escapes, of the manual and of the format: each value as it is listed.
 pub fn values(t: &mut Tester, manual: &str) {
     let table = rows(manual, "| Listed |\n");
     assert!(table.len() > 20);
@@ -59,9 +59,9 @@ pub fn values(t: &mut Tester, manual: &str) {
         let line = format!("\nlogged {{\"v\":{listed}}}\n");
         assert!(
             answers::night_listing(log.as_bytes()).contains(&line),
-            "manual: {written}"
+            "value: {written}"
         );
-        t.whole(&format!("manual: {written}"), log.as_bytes());
+        t.whole(&format!("value: {written}"), log.as_bytes());
     }
 }
 

@@ -2,7 +2,7 @@
 
 use crate::logs::{LOG, Random, sketched};
 use crate::tester::{Case, Tester};
-use crate::{limited_files, manual, shut_outputs};
+use crate::{format, limited_files, manual, shut_outputs};
 use oracle::answers;
 use std::ffi::OsString;
 use std::fs;
@@ -248,7 +248,7 @@ fn outputs(t: &mut Tester) {
     );
 }
 
-pub fn all(t: &mut Tester, text: &str) {
+pub fn all(t: &mut Tester, manual: &str, format: &str) {
     known_merges(t);
     known_refusals(t);
     known_sizes(t);
@@ -258,5 +258,6 @@ pub fn all(t: &mut Tester, text: &str) {
     wrong_calls(t);
     odd_inputs(t);
     outputs(t);
-    manual::merging(t, text);
+    manual::merging(t, manual);
+    format::merges(t, format);
 }

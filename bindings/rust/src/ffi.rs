@@ -1,6 +1,11 @@
-//! The functions of libexports.a, whose declarations for C stand in `bindings/c/lulzhemor.h`.
+//! The functions of liblulzhemor.a, whose declarations for C stand in `bindings/c/lulzhemor.h`.
+
+/// How many sizes a pack has: its nodes, and its text bytes.
+pub const FRONT: usize = 2;
 
 mod c {
+    use super::FRONT;
+
     unsafe extern "C" {
         pub fn lulzhemor_is_utf8(text: *const u8, text_len: usize) -> bool;
         pub fn lulzhemor_judge(
@@ -34,6 +39,7 @@ mod c {
             numbers_len: usize,
             texts: *mut u8,
             texts_len: usize,
+            sizes: *mut [u64; FRONT],
             line: *const u8,
             line_len: usize,
         ) -> u64;
@@ -73,8 +79,8 @@ mod c {
     }
 }
 
-// SAFETY, of each call: every pointer with its length is that of a slice that is borrowed for the call, and the borrows see to it that
-// none overlaps one that is written.
+// SAFETY, of each call: every pointer with its length is that of a slice that is borrowed for the call, that of the sizes is of an array
+// that is, and the borrows see to it that none overlaps one that is written.
 
 pub fn is_utf8(text: &[u8]) -> bool {
     unsafe { c::lulzhemor_is_utf8(text.as_ptr(), text.len()) }
@@ -121,7 +127,13 @@ pub fn merge(
     }
 }
 
-pub fn read_line(kinds: &mut [u8], numbers: &mut [u64], texts: &mut [u8], line: &[u8]) -> u64 {
+pub fn read_line(
+    kinds: &mut [u8],
+    numbers: &mut [u64],
+    texts: &mut [u8],
+    sizes: &mut [u64; FRONT],
+    line: &[u8],
+) -> u64 {
     unsafe {
         c::lulzhemor_read_line(
             kinds.as_mut_ptr(),
@@ -130,6 +142,7 @@ pub fn read_line(kinds: &mut [u8], numbers: &mut [u64], texts: &mut [u8], line: 
             numbers.len(),
             texts.as_mut_ptr(),
             texts.len(),
+            sizes,
             line.as_ptr(),
             line.len(),
         )
@@ -179,5 +192,35 @@ pub fn spell_key(out: &mut [u8], ty: &[u8], id: &[u8]) -> u64 {
             id.as_ptr(),
             id.len(),
         )
+    }
+}
+
+#[cfg(test)]
+mod tests {
+    use super::{FRONT, read_line};
+
+    const OLD: [u64; FRONT] = [77; FRONT];
+
+    /// The answer of a line, and the sizes that it leaves.
+    fn read(nodes: usize, line: &[u8]) -> (u64, [u64; FRONT]) {
+        let (mut kinds, mut texts) = (vec![0; nodes], vec![0; 32_768]);
+        let (mut numbers, mut sizes) = (vec![0; nodes], OLD);
+        let answer = read_line(&mut kinds, &mut numbers, &mut texts, &mut sizes, line);
+        (answer, sizes)
+    }
+
+    #[test]
+    fn only_an_event_writes_the_sizes() {
+        let event = br#"@40 Dig::"go"::ask(m: 1)"#;
+        assert_eq!(read(8_192, event), (1, [12, 9]));
+        assert_eq!(read(8_192, b" \r\n"), (0, OLD));
+        assert_eq!(read(8_192, b"@0 )("), ((1 << 32) + 18, OLD));
+        assert_eq!(read(8_191, event), ((1 << 32) + 1, OLD));
+    }
+
+    #[test]
+    fn the_sizes_are_as_many_as_in_the_header() {
+        let header = include_str!("../../c/lulzhemor.h");
+        assert!(header.contains(&format!("#define LULZHEMOR_FRONT {FRONT}\n")));
     }
 }

@@ -30,6 +30,8 @@ pub const LISTING_ROOM: usize = 245_867;
 
 /// Refusal n passes as this number and n; no success is as large.
 const REFUSED: u64 = 1 << 32;
+/// A line that has an event passes as this number, a blank one as 0.
+const EVENT: u64 = 1;
 
 /// A success, or the refusal's number.
 fn answer(number: u64) -> Result<u64, Refusal> {
@@ -106,12 +108,12 @@ impl Tables {
 
     /// Reads one line: its event, or `None` where it is blank. A line feed inside is whitespace.
     pub fn read_line(&mut self, line: &[u8]) -> Result<Option<Event<'_>>, Refusal> {
-        let number = ffi::read_line(&mut self.kinds, &mut self.numbers, &mut self.texts, line);
-        let sizes = answer(number)?;
-        if sizes == 0 {
+        let mut sizes = [0; ffi::FRONT];
+        let (kinds, numbers, texts) = (&mut self.kinds, &mut self.numbers, &mut self.texts);
+        if answer(ffi::read_line(kinds, numbers, texts, &mut sizes, line))? != EVENT {
             return Ok(None);
         }
-        let (nodes, bytes) = ((sizes & 65_535) as usize, (sizes >> 16) as usize);
+        let [nodes, bytes] = sizes.map(|size| size as usize);
         Ok(Some(Event::new(
             &self.kinds[..nodes],
             &self.numbers[..nodes],

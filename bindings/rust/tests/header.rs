@@ -1,9 +1,10 @@
-//! What the header for C says too: refusals by name, number and text, and the bounds.
+//! What the header for C and the manual say too: refusals by name, number and text, the bounds, and every signature.
 
 use lulzhemor::Refusal;
 use std::collections::BTreeMap;
 
 const HEADER: &str = include_str!("../../c/lulzhemor.h");
+const MANUAL: &str = include_str!("../../../docs/MANUAL.md");
 
 /// The header's refusals: each number with its text.
 fn refusals() -> BTreeMap<u8, String> {
@@ -55,4 +56,45 @@ fn the_bounds_are_those_of_the_header() {
         let row = format!("#define LULZHEMOR_{name} {bound}\n");
         assert!(HEADER.contains(&row), "{name}");
     }
+}
+
+/// Without whitespace, and without the comma that a signature may have behind its last parameter.
+fn squeezed(text: &str) -> String {
+    let text: String = text.split_whitespace().collect();
+    text.replace(",)", ")")
+}
+
+/// The functions that the header declares; those that it defines have a body.
+fn declared() -> Vec<String> {
+    let code: String = HEADER
+        .split("*/")
+        .filter_map(|part| part.split("/*").next())
+        .collect();
+    code.split([';', '}'])
+        .map(squeezed)
+        .filter(|text| text.ends_with(')') && !text.contains('{'))
+        .collect()
+}
+
+#[test]
+fn the_manual_has_every_signature() {
+    let (_, below) = MANUAL.split_once("`TABLES` stands for").expect("TABLES");
+    let tables = below.split('`').nth(3).expect("what TABLES stands for");
+    let source = squeezed(include_str!("../src/lib.rs"));
+    let mut listed = Vec::new();
+    for row in below
+        .lines()
+        .filter(|row| row.contains("lulzhemor_") && row.starts_with("| `"))
+    {
+        let mut cells = row.split('`').skip(1).step_by(2);
+        let (c, rust) = (cells.next().expect("C"), cells.next().expect("Rust"));
+        listed.push(squeezed(&c.replace("TABLES", tables)));
+        let signature = squeezed(&format!("pub fn {rust} {{"));
+        assert!(source.contains(&signature), "{rust}");
+    }
+    listed.sort();
+    let mut declared = declared();
+    declared.sort();
+    assert_eq!(listed, declared);
+    assert_eq!(listed.len(), 8);
 }

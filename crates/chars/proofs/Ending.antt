@@ -4,15 +4,16 @@ use mathlib.Core.Path.{_≡_, refl, sym, ap, subst, _∙_}
 use mathlib.Core.Bool.{Bool, true, false, cond, _&&_, _||_}
 use mathlib.Core.List.{List, [], _∷_, _++_}
 use Prim.Native.Nat.{ℕ, zero, suc, _+_, _-_, _/_, _%_, _≤_, _<_}
+use mathlib.Core.Logic.{⊎-elim}
 use native.Mathlib.Decide.{decLt}
 use native.Mathlib.Omega.{arith}
 use lib.Dec.{ltb, leb, eqb}
 use lib.ListN.{length, getD, take, drop, length-drop}
 use lib.Seq.{length-take-le, drop-cons, drop-length}
-use borrow.Author.Tests.{lt-ltb, le-ltb, le-leb, lt-leb, ne-eqb}
-use Rattle.buffers.proofs.Choice.{by-cond, both-arms}
+use borrow.Author.Tests.{lt-ltb, le-ltb, le-leb, lt-leb, ne-eqb, leb-true, eqb-true}
+use Rattle.buffers.proofs.Choice.{by-cond, both-arms, decide, and-left, and-right, or-cases}
 use Rattle.chars.specs.Utf8.{low, high, charOf, charAt, encode}
-use Rattle.chars.specs.White.{white, wideWhite, widthOf, whiteAt}
+use Rattle.chars.specs.White.{within, white, wideWhite, widthOf, whiteAt}
 use Rattle.chars.specs.Post.{EndsAt, EndsIn}
 use Rattle.chars.specs.declared.Step.{Step}
 use Rattle.chars.specs.declared.Step.the-variants.{Char, Bad}
@@ -20,39 +21,44 @@ use Rattle.chars.proofs.Reading.{low-128, read, whole, ascii-char}
 use Rattle.chars.proofs.Encoding.{decode-encode}
 use Rattle.chars.proofs.Trimming.{white-inside}
 
+-- ---- where no White_Space character is
+
+-- those behind ASCII are from U+0085 to U+3000
+wide-range : (c : ℕ) → wideWhite c ≡ true → (0x85 ≤ c) × (c ≤ 0x3000)
+unfolding wideWhite
+wide-range c =
+    either (is 0x85 (omega arith) (omega arith)) (either (is 0xA0 (omega arith) (omega arith)) (either (is 0x1680 (omega arith) (omega arith))
+    (either ranged
+    (either (is 0x2028 (omega arith) (omega arith)) (either (is 0x2029 (omega arith) (omega arith)) (either (is 0x202F (omega arith) (omega arith))
+    (either (is 0x205F (omega arith) (omega arith)) (is 0x3000 (omega arith) (omega arith)))))))))
+  where
+    is : (n : ℕ) → 0x85 ≤ n → n ≤ 0x3000 → eqb c n ≡ true → (0x85 ≤ c) × (c ≤ 0x3000)
+    is n l h e = let q = eqb-true c n e in (omega arith, omega arith)
+
+    ranged : within 0x2000 0x200A c ≡ true → (0x85 ≤ c) × (c ≤ 0x3000)
+    ranged e =
+        let l = leb-true 0x2000 c (and-left (leb 0x2000 c) (leb c 0x200A) e) in
+        let h = leb-true c 0x200A (and-right (leb 0x2000 c) (leb c 0x200A) e) in
+        (omega arith, omega arith)
+
+    either : {a b : Bool} {P : Type 0} → (a ≡ true → P) → (b ≡ true → P) → (a || b) ≡ true → P
+    either {a} {b} f g e = ⊎-elim f g (or-cases a b e)
+
+pub not-wide : (c : ℕ) → (0x85 ≤ c → c ≤ 0x3000 → ⊥) → wideWhite c ≡ false
+not-wide c n = ⊎-elim (λ e. let r = wide-range c e in absurd (n (r .0) (r .1))) (λ e. e) (decide (wideWhite c))
+
+pub not-white : (c : ℕ) → 0x20 < c → (0x85 ≤ c → c ≤ 0x3000 → ⊥) → white c ≡ false
+unfolding white
+not-white c h n =
+    let a : 0x9 ≤ c = omega arith in
+    let b : 0xD < c = omega arith in
+    let d : c ≡ 0x20 → ⊥ = omega arith in
+    rw (le-leb 0x9 c a, lt-leb c 0xD b, ne-eqb c 0x20 d, not-wide c n)
+
 -- ---- no White_Space character takes four bytes
 
 no-white : (c : ℕ) → 0x10000 ≤ c → white c ≡ false
-unfolding white wideWhite
-no-white c h =
-    let a1 : 9 ≤ c = omega arith in
-    let a2 : 13 < c = omega arith in
-    let a3 : c ≡ 0x20 → ⊥ = omega arith in
-    let b1 : c ≡ 0x85 → ⊥ = omega arith in
-    let b2 : c ≡ 0xA0 → ⊥ = omega arith in
-    let b3 : c ≡ 0x1680 → ⊥ = omega arith in
-    let c1 : 0x2000 ≤ c = omega arith in
-    let c2 : 0x200A < c = omega arith in
-    let d1 : c ≡ 0x2028 → ⊥ = omega arith in
-    let d2 : c ≡ 0x2029 → ⊥ = omega arith in
-    let d3 : c ≡ 0x202F → ⊥ = omega arith in
-    let d4 : c ≡ 0x205F → ⊥ = omega arith in
-    let d5 : c ≡ 0x3000 → ⊥ = omega arith in
-    rw (
-      le-leb 9 c a1,
-      lt-leb c 13 a2,
-      ne-eqb c 0x20 a3,
-      ne-eqb c 0x85 b1,
-      ne-eqb c 0xA0 b2,
-      ne-eqb c 0x1680 b3,
-      le-leb 0x2000 c c1,
-      lt-leb c 0x200A c2,
-      ne-eqb c 0x2028 d1,
-      ne-eqb c 0x2029 d2,
-      ne-eqb c 0x202F d3,
-      ne-eqb c 0x205F d4,
-      ne-eqb c 0x3000 d5,
-    )
+no-white c h = not-white c (omega arith) (λ l g. omega arith)
 
 encode-3 : (c : ℕ) → c < 0x10000 → length (encode c) ≤ 3
 unfolding encode
@@ -88,7 +94,7 @@ right s r e = (e, subst (λ (n : ℕ). n ≤ length s) (sym e) (white-inside s))
 
 -- a text of nothing begins with none
 pub white-none : (s : List ℕ) → length s ≡ 0 → whiteAt s ≡ 0
-unfolding whiteAt charAt
+unfolding whiteAt
 white-none [] h = refl
 white-none (a ∷ r) h = absurd (omega arith)
 

@@ -1,5 +1,7 @@
 pub mod Reading
 pub mod Encoding
+pub mod Utf8Meaning
+pub mod Writing
 pub mod Boundary
 pub mod Trimming
 pub mod Ending

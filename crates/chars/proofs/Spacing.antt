@@ -14,38 +14,11 @@ use borrow.Author.Tests.{le-leb, lt-leb, ne-eqb}
 use Rattle.chars.specs.White.{white, wideWhite, whiteAt, trimFrom, trimStart, empty, trimEnd, trim, blank}
 use Rattle.chars.specs.Post.{EndsIn, Spaces}
 use Rattle.chars.proofs.Trimming.{trim-start-stays, trim-start-white, start-clean}
-use Rattle.chars.proofs.Ending.{white-first, white-ascii, last-one, ends-ascii, ends-wide}
+use Rattle.chars.proofs.Ending.{not-white, white-first, white-ascii, last-one, ends-ascii, ends-wide}
 
 -- what comes behind the space in ASCII is no White_Space
 past-space : (a : ℕ) → 32 < a → a < 128 → white a ≡ false
-unfolding white wideWhite
-past-space a h l =
-    let a1 : 9 ≤ a = omega arith in
-    let a2 : 13 < a = omega arith in
-    let a3 : a ≡ 0x20 → ⊥ = omega arith in
-    let b1 : a ≡ 0x85 → ⊥ = omega arith in
-    let b2 : a ≡ 0xA0 → ⊥ = omega arith in
-    let b3 : a ≡ 0x1680 → ⊥ = omega arith in
-    let c1 : a < 0x2000 = omega arith in
-    let d1 : a ≡ 0x2028 → ⊥ = omega arith in
-    let d2 : a ≡ 0x2029 → ⊥ = omega arith in
-    let d3 : a ≡ 0x202F → ⊥ = omega arith in
-    let d4 : a ≡ 0x205F → ⊥ = omega arith in
-    let d5 : a ≡ 0x3000 → ⊥ = omega arith in
-    rw (
-      le-leb 9 a a1,
-      lt-leb a 13 a2,
-      ne-eqb a 0x20 a3,
-      ne-eqb a 0x85 b1,
-      ne-eqb a 0xA0 b2,
-      ne-eqb a 0x1680 b3,
-      lt-leb 0x2000 a c1,
-      ne-eqb a 0x2028 d1,
-      ne-eqb a 0x2029 d2,
-      ne-eqb a 0x202F d3,
-      ne-eqb a 0x205F d4,
-      ne-eqb a 0x3000 d5,
-    )
+past-space a h l = not-white a h (λ g k. omega arith)
 
 module _ (s : List ℕ) (some : 0 < length s) where
   pub begins-past : 32 < getD s 0 0 → getD s 0 0 < 128 → whiteAt s ≡ 0

@@ -1,3 +1,4 @@
 pub mod Utf8
+pub mod Scalars
 pub mod White
 pub mod Post

@@ -1,8 +1,9 @@
--- What the inner functions promise.
+-- Of inner functions alone: what they promise. No rule of a document stands here.
 -- Assumes nothing.
 use mathlib.Core.Path.{_≡_}
 use mathlib.Core.List.{List}
 use Prim.Native.Nat.{ℕ, _+_, _-_, _≤_, _<_}
+use Prim.Native.Char.{code}
 use lib.ListN.{length, getD, drop}
 use Rattle.chars.specs.Utf8.{charAt, utf8}
 use Rattle.chars.specs.White.{whiteAt}
@@ -13,7 +14,8 @@ pub record Plain (s : List ℕ) (at end : ℕ) : Type 0 where
   pub forward : at ≤ end
   pub ascii : (i : ℕ) → at ≤ i → i < end → getD s i 0 < 128
 
--- n bytes behind the place `at` are whole characters, or n is 0 and no character stands there
+-- n bytes can be passed over at the place `at`: the text is UTF-8 from there on just where it is behind them; n is 0 only where no
+-- character stands there
 pub record Advances (s : List ℕ) (at n : ℕ) : Type 0 where
   pub inside : at + n ≤ length s
   pub onward : utf8 (drop at s) ≡ utf8 (drop (at + n) s)
@@ -30,4 +32,4 @@ pub record EndsIn (s : List ℕ) (n : ℕ) : Type 0 where
 
 -- the first n bytes are spaces
 abbrev pub Spaces : List ℕ → ℕ → Type 0
-Spaces s n = (i : ℕ) → i < n → getD s i 0 ≡ 32
+Spaces s n = (i : ℕ) → i < n → getD s i 0 ≡ code " "

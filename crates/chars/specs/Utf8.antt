@@ -19,21 +19,25 @@ low a = cond (eqb a 0xE0) 0xA0 (cond (eqb a 0xF0) 0x90 0x80)
 unfoldable pub high : ℕ → ℕ
 high a = cond (eqb a 0xED) 0x9F (cond (eqb a 0xF4) 0x8F 0xBF)
 
--- the character that the bytes a b c d begin with, and how many bytes it takes
+-- the character of two to four bytes whose first two are right, and how many bytes it takes
+abbrev pub longOf : ℕ → ℕ → ℕ → ℕ → Step
+longOf a b c d =
+    cond (ltb a 0xE0) (Char ((a - 0xC0) * 64 + (b - 0x80)) 2)
+    (cond (ltb c 0x80) Bad
+    (cond (ltb 0xBF c) Bad
+    (cond (ltb a 0xF0) (Char ((a - 0xE0) * 4096 + (b - 0x80) * 64 + (c - 0x80)) 3)
+    (cond (ltb d 0x80) Bad
+    (cond (ltb 0xBF d) Bad
+    (Char ((a - 0xF0) * 262144 + (b - 0x80) * 4096 + (c - 0x80) * 64 + (d - 0x80)) 4))))))
+
+-- the character that the bytes a b c d begin with
 unfoldable pub charOf : ℕ → ℕ → ℕ → ℕ → Step
 charOf a b c d =
     cond (ltb a 0x80) (Char a 1)
     (cond (ltb a 0xC2) Bad
     (cond (ltb 0xF4 a) Bad
     (cond (ltb b (low a)) Bad
-    (cond (ltb (high a) b) Bad
-    (cond (ltb a 0xE0) (Char ((a - 0xC0) * 64 + (b - 0x80)) 2)
-    (cond (ltb c 0x80) Bad
-    (cond (ltb 0xBF c) Bad
-    (cond (ltb a 0xF0) (Char ((a - 0xE0) * 4096 + (b - 0x80) * 64 + (c - 0x80)) 3)
-    (cond (ltb d 0x80) Bad
-    (cond (ltb 0xBF d) Bad
-    (Char ((a - 0xF0) * 262144 + (b - 0x80) * 4096 + (c - 0x80) * 64 + (d - 0x80)) 4)))))))))))
+    (cond (ltb (high a) b) Bad (longOf a b c d)))))
 
 -- the character that a text begins with; past its end stand zeros, which continue nothing
 abbrev pub charAt : List ℕ → Step

@@ -8,18 +8,21 @@ use Rattle.chars.specs.Utf8.{charAt}
 use Rattle.chars.specs.declared.Step.{Step}
 use Rattle.chars.specs.declared.Step.the-variants.{Char, Bad}
 
+-- lo to hi, both included
 abbrev pub within : ℕ → ℕ → ℕ → Bool
 within lo hi c = leb lo c && leb c hi
 
--- the code points of White_Space: U+0009 to 000D, 0020, and those behind ASCII
+-- the code points of White_Space behind ASCII
 unfoldable pub wideWhite : ℕ → Bool
 wideWhite c =
     eqb c 0x85 || (eqb c 0xA0 || (eqb c 0x1680 || (within 0x2000 0x200A c || (eqb c 0x2028 || (eqb c 0x2029
     || (eqb c 0x202F || (eqb c 0x205F || eqb c 0x3000)))))))
 
+-- all of them: U+0009 to U+000D, U+0020, and those behind ASCII
 unfoldable pub white : ℕ → Bool
 white c = within 0x9 0xD c || (eqb c 0x20 || wideWhite c)
 
+-- the width of what was read, where it is White_Space
 abbrev pub widthOf : Step → ℕ
 widthOf (Char c n) = cond (white c) n 0
 widthOf Bad = 0

@@ -1,10 +1,12 @@
-// Characters: UTF-8, White_Space, and a text trimmed at both ends.
+// Characters: UTF-8 read and written, White_Space, and a text trimmed at both ends.
 // Every function answers on every input; bytes that are no character are `Bad`, and are never White_Space.
 ghost use mathlib.Core.Path.{_≡_};
 ghost use mathlib.Core.Bool.{true};
+ghost use mathlib.Core.List.{[], _∷_};
 ghost use Prim.Native.Nat.{ℕ, _+_, _-_, _≤_, _<_};
 ghost use lib.ListN.{length, getD, drop};
-ghost use Rattle.chars.specs.Utf8.{low as lowOf, high as highOf, charOf, charAt, utf8};
+ghost use Rattle.buffers.specs.Wrote.{Wrote};
+ghost use Rattle.chars.specs.Utf8.{low as lowOf, high as highOf, longOf, charOf, charAt, utf8, encode};
 ghost use Rattle.chars.specs.White.{within, white, wideWhite, whiteAt, trimStart, trimEnd, trim as trimmed, blank};
 ghost use Rattle.chars.specs.Post.{Plain, Advances, EndsIn, Spaces};
 
@@ -51,28 +53,11 @@ fn high(a: u32) -> u32
     0xbf
 }
 
-// The character that four bytes begin with.
-fn char_of(a: u32, b: u32, c: u32, d: u32) -> Step
-    requires { ⌜ (a < 256) × (b < 256) × (c < 256) × (d < 256) ⌝ }
-    ensures { λ r. ⌜ r ≡ charOf a b c d ⌝ }
+// The character of two to four bytes whose first two are right.
+fn long_char(a: u32, b: u32, c: u32, d: u32) -> Step
+    requires { ⌜ (0xC2 ≤ a) × (a < 256) × (128 ≤ b) × (b < 256) × (c < 256) × (d < 256) ⌝ }
+    ensures { λ r. ⌜ r ≡ longOf a b c d ⌝ }
 {
-    if a < 0x80 {
-        return Step::Char(a, 1);
-    }
-    if a < 0xc2 {
-        return Step::Bad;
-    }
-    if 0xf4 < a {
-        return Step::Bad;
-    }
-    let lo = low(a);
-    let hi = high(a);
-    if b < lo {
-        return Step::Bad;
-    }
-    if hi < b {
-        return Step::Bad;
-    }
     if a < 0xe0 {
         return Step::Char((a - 0xc0) * 64 + (b - 0x80), 2);
     }
@@ -97,6 +82,31 @@ fn char_of(a: u32, b: u32, c: u32, d: u32) -> Step
     )
 }
 
+// The character that four bytes begin with.
+fn char_of(a: u32, b: u32, c: u32, d: u32) -> Step
+    requires { ⌜ (a < 256) × (b < 256) × (c < 256) × (d < 256) ⌝ }
+    ensures { λ r. ⌜ r ≡ charOf a b c d ⌝ }
+{
+    if a < 0x80 {
+        return Step::Char(a, 1);
+    }
+    if a < 0xc2 {
+        return Step::Bad;
+    }
+    if 0xf4 < a {
+        return Step::Bad;
+    }
+    let lo = low(a);
+    let hi = high(a);
+    if b < lo {
+        return Step::Bad;
+    }
+    if hi < b {
+        return Step::Bad;
+    }
+    long_char(a, b, c, d)
+}
+
 // The character at a place.
 pub fn decode_char(s: &[u8], at: usize) -> Step
     ensures { λ r. ⌜ r ≡ charAt (drop at (now (s .entry))) ⌝ }
@@ -110,6 +120,57 @@ pub fn decode_char(s: &[u8], at: usize) -> Step
         byte_at(s, at + 2),
         byte_at(s, at + 3),
     )
+}
+
+// How many bytes the character c takes.
+pub fn char_length(c: u32) -> usize
+    ensures { λ r. ⌜ (r ≡ length (encode c)) × (r ≤ 4) ⌝ }
+{
+    if c < 0x80 {
+        return 1;
+    }
+    if c < 0x800 {
+        return 2;
+    }
+    if c < 0x10000 {
+        return 3;
+    }
+    4
+}
+
+// Appends two bytes behind the first `at`. The answer is where the text then ends.
+fn append_two(out: &mut [u8], at: usize, a: u8, b: u8) -> usize
+    requires { ⌜ at + 2 ≤ length (now out) ⌝ }
+    ensures { λ r. ⌜ Wrote (now (out .entry)) at (now (out .exit)) r (a ∷ b ∷ []) ⌝ }
+{
+    let next = buffers::put(out, at, a);
+    buffers::put(out, next, b)
+}
+
+// Appends the character c behind the first `at`. The answer is where the text then ends.
+pub fn append_char(out: &mut [u8], at: usize, c: u32) -> usize
+    requires { ⌜ (c < 0x110000) × (at + length (encode c) ≤ length (now out)) ⌝ }
+    ensures { λ r. ⌜ Wrote (now (out .entry)) at (now (out .exit)) r (encode c) ⌝ }
+{
+    if c < 0x80 {
+        return buffers::put(out, at, c as u8);
+    }
+    let last = (0x80 + c % 64) as u8;
+    if c < 0x800 {
+        return append_two(out, at, (0xc0 + c / 64) as u8, last);
+    }
+    let middle = (0x80 + c / 64 % 64) as u8;
+    if c < 0x10000 {
+        let end = append_two(out, at, (0xe0 + c / 4096) as u8, middle);
+        return buffers::put(out, end, last);
+    }
+    let end = append_two(
+        out,
+        at,
+        (0xf0 + c / 262144) as u8,
+        (0x80 + c / 4096 % 64) as u8,
+    );
+    append_two(out, end, middle, last)
 }
 
 // No byte of s is above the answer.
@@ -240,7 +301,7 @@ fn is_within(lo: u32, hi: u32, c: u32) -> bool
 }
 
 // Is the code point c White_Space? ASCII is decided first.
-pub fn is_white(c: u32) -> bool
+fn is_white(c: u32) -> bool
     ensures { λ r. ⌜ r ≡ white c ⌝ }
 {
     if is_within(0x9, 0xd, c) {

@@ -12,7 +12,7 @@ use lib.ListN.{length, getD, drop, drop-of-length-le}
 use lib.Seq.{drop-cons}
 use borrow.Author.Tests.{ne-eqb, lt-ltb, le-ltb}
 use Rattle.chars.specs.Utf8.{scalar}
-use Rattle.escapes.specs.Unescape.{hexDigit, andThen, digitsFrom, digits, withoutUnderscore, ifScalar, named, onto, braced, charOr, unicodeOf}
+use Rattle.escapes.specs.Unescape.{hexDigit, digitThen, digitsFrom, hexNumber, withoutUnderscore, ifScalar, named, ontoBody, braced, charOr, unicodeOf}
 use Rattle.escapes.specs.Walk.{bracesOf, braces, unnamed, moreDigits, numbered}
 use Rattle.escapes.specs.declared.Escape.the-variants.{Verbatim}
 
@@ -36,7 +36,7 @@ next f g n b r h e = rw (ne-eqb b 125 h) (go (braced r))
     along : (k : ℕ) → n + suc k ≡ n + 1 + k
     along k = omega arith
 
-    go : (o : Option (List ℕ)) → bracesOf f n (b ∷ r) (onto b o) ≡ bracesOf g (n + 1) r o
+    go : (o : Option (List ℕ)) → bracesOf f n (b ∷ r) (ontoBody b o) ≡ bracesOf g (n + 1) r o
     go (some body) = ap₂ charOr (e body) (along (suc (length body)))
     go none = ap Verbatim (along (length r))
 
@@ -49,7 +49,7 @@ pub same-first : (f g : Reads) (n b : ℕ) (r : List ℕ) → f [] ≡ g [] → 
 unfolding braces braced
 same-first f g n b r e e' = go (eqb b 125) (braced r)
   where
-    go : (t : Bool) (o : Option (List ℕ)) → bracesOf f n (b ∷ r) (cond t (some []) (onto b o)) ≡ bracesOf g n (b ∷ r) (cond t (some []) (onto b o))
+    go : (t : Bool) (o : Option (List ℕ)) → bracesOf f n (b ∷ r) (cond t (some []) (ontoBody b o)) ≡ bracesOf g n (b ∷ r) (cond t (some []) (ontoBody b o))
     go true o = ap (λ (v : Option ℕ). charOr v (n + 1)) e
     go false (some body) = ap (λ (v : Option ℕ). charOr v (n + suc (suc (length body)))) (e' body)
     go false none = refl
@@ -113,7 +113,7 @@ module _ (b : ℕ) where
   unfolding named numbered withoutUnderscore
   first-plus e h = rw e (ap ifScalar (go (withoutUnderscore h)))
     where
-      go : (l : List ℕ) → digits l ≡ moreDigits false 0 l
+      go : (l : List ℕ) → hexNumber l ≡ moreDigits false 0 l
       go [] = refl
       go (x ∷ l) = refl
 
@@ -140,7 +140,7 @@ unfolding digitsFrom
 too-large v [] h = rw (no-scalar v h)
 too-large v (b ∷ r) h = go (hexDigit b) (λ d. too-large (v * 16 + d) r (omega arith))
   where
-    go : (o : Option ℕ) → ((d : ℕ) → ifScalar (digitsFrom (v * 16 + d) r) ≡ none) → ifScalar (andThen o (λ d. digitsFrom (v * 16 + d) r)) ≡ none
+    go : (o : Option ℕ) → ((d : ℕ) → ifScalar (digitsFrom (v * 16 + d) r) ≡ none) → ifScalar (digitThen o (λ d. digitsFrom (v * 16 + d) r)) ≡ none
     go (some d) ih = ih d
     go none ih = refl
 

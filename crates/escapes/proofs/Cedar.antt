@@ -15,7 +15,7 @@ use Rattle.buffers.proofs.Choice.{by-cond, and-left, and-right}
 use Rattle.chars.specs.Utf8.{scalar, encode}
 use Rattle.escapes.specs.Unescape.{hexDigit, ifScalar, withoutUnderscore, digitsFrom, named, braced, charOr, unicodeOf, byteOf, shortOr, escapeAt, unescapeFrom, unescape}
 use Rattle.escapes.specs.Walk.{braces, numbered}
-use Rattle.escapes.specs.Cedar.{Literal, char, wrong, asciiOf, nextDigit, unicodeFrom, literalAt, behind, literally, cedarFrom, cedar}
+use Rattle.escapes.specs.Cedar.{Literal, char, wrong, asciiOf, nextDigit, unicodeFrom, literalAt, beforeRest, literally, cedarFrom, cedar}
 use Rattle.escapes.specs.declared.Escape.{Escape}
 use Rattle.escapes.specs.declared.Escape.the-variants.{Char, Verbatim}
 use Rattle.escapes.proofs.Braces.{Reads, braces-named, next, close, same-first, digit, underscore, first-other}
@@ -119,7 +119,7 @@ escape-agrees r =
     (both (eqb b 117 && eqb (getD r 1 0) 123) _ _ _ _ (unicode-agrees (drop 2 r)) tt))))))))
 
 -- what stands in front is taken off
-split : (x : List ℕ) (o : Option (List ℕ)) (out : List ℕ) → behind x o ≡ some out → (y : List ℕ) × (o ≡ some y) × (x ++ y ≡ out)
+split : (x : List ℕ) (o : Option (List ℕ)) (out : List ℕ) → beforeRest x o ≡ some out → (y : List ℕ) × (o ≡ some y) × (x ++ y ≡ out)
 split x (some y) out e = (y, refl, cc)
 split x none out e = let z : _≡_ {A = ℕ} 0 1 = cc in absurd (omega arith)
 
@@ -132,7 +132,7 @@ agrees-from zero (a ∷ r) out e = go (eqb a 92) refl (eqb a 34 || eqb a 13) (li
   where
     go : (t : Bool) → eqb a 92 ≡ t → (u : Bool) (l : Literal) → Agrees l (escapeAt r)
         → ((k : ℕ) (out : List ℕ) → cedarFrom k r ≡ some out → unescapeFrom k r ≡ out)
-        → cond t (literally l (λ k. cedarFrom k r)) (cond u none (behind (a ∷ []) (cedarFrom 0 r))) ≡ some out
+        → cond t (literally l (λ k. cedarFrom k r)) (cond u none (beforeRest (a ∷ []) (cedarFrom 0 r))) ≡ some out
         → unescapeFrom zero (a ∷ r) ≡ out
     go true p u (char v n) g ih e =
         let j = split (encode v) (cedarFrom n r) out e in

@@ -9,7 +9,8 @@ use native.Mathlib.Omega.{arith}
 use lib.Dec.{leb}
 use borrow.Author.Tests.{lt-ltb, le-leb, lt-leb}
 use Rattle.buffers.proofs.Choice.{and-false}
-use Rattle.escapes.specs.Unescape.{within, hexDigit}
+use Rattle.chars.specs.White.{within}
+use Rattle.escapes.specs.Unescape.{hexDigit}
 use Rattle.escapes.specs.Walk.{digitOr}
 
 pub zero-none : {b : ℕ} → b ≡ 0 → hexDigit b ≡ digitOr 16

@@ -14,7 +14,8 @@ use borrow.Author.Tests.{ne-eqb, eqb-true, leb-true, lt-ltb, le-ltb}
 use Rattle.buffers.proofs.Choice.{by-cond, both-arms, and-left, and-right}
 use Rattle.chars.specs.Utf8.{scalar, encode}
 use Rattle.chars.proofs.Reading.{inside}
-use Rattle.escapes.specs.Unescape.{within, hexDigit, ifScalar, radix16, withoutUnderscore, named, onto, braced, charOr, unicodeOf, byteOf, shortOr, escapeAt}
+use Rattle.chars.specs.White.{within}
+use Rattle.escapes.specs.Unescape.{hexDigit, ifScalar, radix16, withoutUnderscore, named, ontoBody, braced, charOr, unicodeOf, byteOf, shortOr, escapeAt}
 use Rattle.escapes.specs.Walk.{shortOf, braces, unicodeAt}
 use Rattle.escapes.specs.declared.Escape.{Escape}
 use Rattle.escapes.specs.declared.Escape.the-variants.{Char, Verbatim}
@@ -159,7 +160,7 @@ braced-inside [] body e = let z : _≡_ {A = ℕ} 0 1 = cc in absurd (omega arit
 braced-inside (b ∷ r) body e = go (eqb b 125) (braced r) body (λ body e. braced-inside r body e) e
   where
     go : (t : Bool) (o : Option (List ℕ)) (body : List ℕ) → ((body : List ℕ) → o ≡ some body → suc (length body) ≤ length r)
-        → cond t (some []) (onto b o) ≡ some body → suc (length body) ≤ suc (length r)
+        → cond t (some []) (ontoBody b o) ≡ some body → suc (length body) ≤ suc (length r)
     go true o body ih e = let z : [] ≡ body = cc in rw (← z) (omega arith)
     go false (some rest) body ih e = let z : b ∷ rest ≡ body = cc in rw (← z) (omega (arith, ih rest refl))
     go false none body ih e = let z : _≡_ {A = ℕ} 0 1 = cc in absurd (omega arith)

@@ -5,6 +5,8 @@ use mathlib.Core.Path.{_≡_, refl}
 use mathlib.Core.List.{List, [], _∷_}
 use mathlib.Core.Option.{Option, none, some}
 use Prim.Native.Nat.{ℕ}
+use Prim.Native.Char.{code}
+use Rattle.buffers.specs.Ascii.{ascii}
 use Rattle.chars.specs.Utf8.{scalar, encode, charOf, utf8From}
 use Rattle.escapes.specs.Unescape.{hexDigit, digitsFrom, withoutUnderscore, named, braced, shortOr, escapeAt, unescapeFrom, unescape}
 use Rattle.escapes.specs.Walk.{plainRun, shortOf}
@@ -13,38 +15,38 @@ use Rattle.escapes.specs.Cedar.{unicodeFrom, literalAt, cedarFrom, cedar
 use Rattle.escapes.specs.declared.Decoded.the-variants.{Written, Refused}
 
 -- 01, fact 1: `\u{4_1}` decodes to A
-pub fact-1 : unescape (92 ∷ 117 ∷ 123 ∷ 52 ∷ 95 ∷ 49 ∷ 125 ∷ []) ≡ 65 ∷ []
+pub fact-1 : unescape (ascii "\\u{4_1}") ≡ ascii "A"
 unfolding unescapeFrom escapeAt shortOr braced named withoutUnderscore digitsFrom hexDigit scalar encode
 fact-1 = refl
 
 -- 01, fact 2: `\u{_41}` stays
-pub fact-2 : unescape (92 ∷ 117 ∷ 123 ∷ 95 ∷ 52 ∷ 49 ∷ 125 ∷ []) ≡ 92 ∷ 117 ∷ 123 ∷ 95 ∷ 52 ∷ 49 ∷ 125 ∷ []
+pub fact-2 : unescape (ascii "\\u{_41}") ≡ ascii "\\u{_41}"
 unfolding unescapeFrom escapeAt shortOr braced named withoutUnderscore digitsFrom hexDigit scalar encode
 fact-2 = refl
 
 -- 01, fact 3: `\u{+41}` decodes to A
-pub fact-3 : unescape (92 ∷ 117 ∷ 123 ∷ 43 ∷ 52 ∷ 49 ∷ 125 ∷ []) ≡ 65 ∷ []
+pub fact-3 : unescape (ascii "\\u{+41}") ≡ ascii "A"
 unfolding unescapeFrom escapeAt shortOr braced named withoutUnderscore digitsFrom hexDigit scalar encode
 fact-3 = refl
 
 -- 01, fact 4: `\x4` gives U+0004
-pub fact-4 : unescape (92 ∷ 120 ∷ 52 ∷ []) ≡ 4 ∷ []
+pub fact-4 : unescape (ascii "\\x4") ≡ 4 ∷ []
 unfolding unescapeFrom escapeAt shortOr braced named withoutUnderscore digitsFrom hexDigit scalar encode
 fact-4 = refl
 
 -- the run before a backslash, and the letters of short escapes
-pub run-before : (plainRun (97 ∷ 98 ∷ 92 ∷ 110 ∷ []) ≡ 2) × (shortOf 110 ≡ 10) × (shortOf 113 ≡ 128)
+pub run-before : (plainRun (ascii "ab\\n") ≡ 2) × (shortOf (code "n") ≡ code "\n") × (shortOf (code "q") ≡ 128)
 unfolding plainRun shortOf
 run-before = (refl, refl, refl)
 
 -- the entry point: `\n` into three bytes, into none, and a byte that is not UTF-8
 pub decoded-answers :
-    (decoded (92 ∷ 110 ∷ []) 3 ≡ Written 1) × (outputAfter (92 ∷ 110 ∷ []) (7 ∷ 8 ∷ 9 ∷ []) ≡ 10 ∷ 8 ∷ 9 ∷ []) × (decoded (92 ∷ 110 ∷ []) 0 ≡ Refused 5) × (decoded (128 ∷ []) 3 ≡ Refused 3)
+    (decoded (ascii "\\n") 3 ≡ Written 1) × (outputAfter (ascii "\\n") (7 ∷ 8 ∷ 9 ∷ []) ≡ code "\n" ∷ 8 ∷ 9 ∷ []) × (decoded (ascii "\\n") 0 ≡ Refused 5) × (decoded (128 ∷ []) 3 ≡ Refused 3)
 unfolding decoded utf8From charOf unescapeFrom escapeAt shortOr braced named withoutUnderscore digitsFrom hexDigit scalar encode
 decoded-answers = (refl, refl, refl, refl)
 
 -- Cedar accepts both, and decoding agrees: a _ behind a digit, and six digits
-pub accepted : (cedar (92 ∷ 117 ∷ 123 ∷ 52 ∷ 95 ∷ 125 ∷ []) ≡ some (4 ∷ [])) × (cedar (92 ∷ 117 ∷ 123 ∷ 48 ∷ 48 ∷ 48 ∷ 48 ∷ 52 ∷ 49 ∷ 125 ∷ []) ≡ some (65 ∷ []))
+pub accepted : (cedar (ascii "\\u{4_}") ≡ some (4 ∷ [])) × (cedar (ascii "\\u{000041}") ≡ some (ascii "A"))
 unfolding cedarFrom literalAt unicodeFrom unescapeFrom escapeAt shortOr braced named withoutUnderscore digitsFrom hexDigit scalar encode
 accepted = (refl, refl)
 
@@ -53,86 +55,86 @@ abbrev Parts : List ℕ → List ℕ → Type 0
 Parts s out = (cedar s ≡ none) × (unescape s ≡ out)
 
 -- a + before the digits
-pub plus : Parts (92 ∷ 117 ∷ 123 ∷ 43 ∷ 48 ∷ 125 ∷ []) (0 ∷ [])
+pub plus : Parts (ascii "\\u{+0}") (0 ∷ [])
 unfolding cedarFrom literalAt unicodeFrom unescapeFrom escapeAt shortOr braced named withoutUnderscore digitsFrom hexDigit scalar encode
 plus = (refl, refl)
 
 -- more than six digits
-pub seven-digits : Parts (92 ∷ 117 ∷ 123 ∷ 48 ∷ 48 ∷ 48 ∷ 48 ∷ 48 ∷ 48 ∷ 48 ∷ 125 ∷ []) (0 ∷ [])
+pub seven-digits : Parts (ascii "\\u{0000000}") (0 ∷ [])
 unfolding cedarFrom literalAt unicodeFrom unescapeFrom escapeAt shortOr braced named withoutUnderscore digitsFrom hexDigit scalar encode
 seven-digits = (refl, refl)
 
 -- \x with one digit
-pub one-digit : Parts (92 ∷ 120 ∷ 48 ∷ []) (0 ∷ [])
+pub one-digit : Parts (ascii "\\x0") (0 ∷ [])
 unfolding cedarFrom literalAt unicodeFrom unescapeFrom escapeAt shortOr braced named withoutUnderscore digitsFrom hexDigit scalar encode
 one-digit = (refl, refl)
 
--- \x with two digits past 7F
-pub past-7F : Parts (92 ∷ 120 ∷ 56 ∷ 48 ∷ []) (194 ∷ 128 ∷ [])
+-- \x with two digits past 7F: the bytes of U+0080
+pub past-7F : Parts (ascii "\\x80") (194 ∷ 128 ∷ [])
 unfolding cedarFrom literalAt unicodeFrom unescapeFrom escapeAt shortOr braced named withoutUnderscore digitsFrom hexDigit scalar encode
 past-7F = (refl, refl)
 
 -- \x without a digit
-pub no-digit : Parts (92 ∷ 120 ∷ []) (92 ∷ 120 ∷ [])
+pub no-digit : Parts (ascii "\\x") (ascii "\\x")
 unfolding cedarFrom literalAt unicodeFrom unescapeFrom escapeAt shortOr braced named withoutUnderscore digitsFrom hexDigit scalar encode
 no-digit = (refl, refl)
 
 -- \u{..} that names nothing: empty
-pub empty-braces : Parts (92 ∷ 117 ∷ 123 ∷ 125 ∷ []) (92 ∷ 117 ∷ 123 ∷ 125 ∷ [])
+pub empty-braces : Parts (ascii "\\u{}") (ascii "\\u{}")
 unfolding cedarFrom literalAt unicodeFrom unescapeFrom escapeAt shortOr braced named withoutUnderscore digitsFrom hexDigit scalar encode
 empty-braces = (refl, refl)
 
 -- .. a _ first
-pub underscore-first : Parts (92 ∷ 117 ∷ 123 ∷ 95 ∷ 48 ∷ 125 ∷ []) (92 ∷ 117 ∷ 123 ∷ 95 ∷ 48 ∷ 125 ∷ [])
+pub underscore-first : Parts (ascii "\\u{_0}") (ascii "\\u{_0}")
 unfolding cedarFrom literalAt unicodeFrom unescapeFrom escapeAt shortOr braced named withoutUnderscore digitsFrom hexDigit scalar encode
 underscore-first = (refl, refl)
 
 -- .. a byte that is no digit
-pub no-number : Parts (92 ∷ 117 ∷ 123 ∷ 103 ∷ 125 ∷ []) (92 ∷ 117 ∷ 123 ∷ 103 ∷ 125 ∷ [])
+pub no-number : Parts (ascii "\\u{g}") (ascii "\\u{g}")
 unfolding cedarFrom literalAt unicodeFrom unescapeFrom escapeAt shortOr braced named withoutUnderscore digitsFrom hexDigit scalar encode
 no-number = (refl, refl)
 
 -- .. a surrogate
-pub surrogate : Parts (92 ∷ 117 ∷ 123 ∷ 68 ∷ 56 ∷ 48 ∷ 48 ∷ 125 ∷ []) (92 ∷ 117 ∷ 123 ∷ 68 ∷ 56 ∷ 48 ∷ 48 ∷ 125 ∷ [])
+pub surrogate : Parts (ascii "\\u{D800}") (ascii "\\u{D800}")
 unfolding cedarFrom literalAt unicodeFrom unescapeFrom escapeAt shortOr braced named withoutUnderscore digitsFrom hexDigit scalar encode
 surrogate = (refl, refl)
 
 -- .. a number past 10FFFF
-pub past-10FFFF : Parts (92 ∷ 117 ∷ 123 ∷ 49 ∷ 49 ∷ 48 ∷ 48 ∷ 48 ∷ 48 ∷ 125 ∷ []) (92 ∷ 117 ∷ 123 ∷ 49 ∷ 49 ∷ 48 ∷ 48 ∷ 48 ∷ 48 ∷ 125 ∷ [])
+pub past-10FFFF : Parts (ascii "\\u{110000}") (ascii "\\u{110000}")
 unfolding cedarFrom literalAt unicodeFrom unescapeFrom escapeAt shortOr braced named withoutUnderscore digitsFrom hexDigit scalar encode
 past-10FFFF = (refl, refl)
 
 -- \u{ without }, and all that follows it
-pub unclosed : Parts (92 ∷ 117 ∷ 123 ∷ 92 ∷ 110 ∷ []) (92 ∷ 117 ∷ 123 ∷ 92 ∷ 110 ∷ [])
+pub unclosed : Parts (ascii "\\u{\\n") (ascii "\\u{\\n")
 unfolding cedarFrom literalAt unicodeFrom unescapeFrom escapeAt shortOr braced named withoutUnderscore digitsFrom hexDigit scalar encode
 unclosed = (refl, refl)
 
 -- \u without {
-pub no-brace : Parts (92 ∷ 117 ∷ []) (92 ∷ 117 ∷ [])
+pub no-brace : Parts (ascii "\\u") (ascii "\\u")
 unfolding cedarFrom literalAt unicodeFrom unescapeFrom escapeAt shortOr braced named withoutUnderscore digitsFrom hexDigit scalar encode
 no-brace = (refl, refl)
 
 -- any other byte behind a backslash
-pub unknown : Parts (92 ∷ 97 ∷ []) (92 ∷ 97 ∷ [])
+pub unknown : Parts (ascii "\\a") (ascii "\\a")
 unfolding cedarFrom literalAt unicodeFrom unescapeFrom escapeAt shortOr braced named withoutUnderscore digitsFrom hexDigit scalar encode
 unknown = (refl, refl)
 
 -- a backslash before a line feed
-pub line-end : Parts (92 ∷ 10 ∷ []) (92 ∷ 10 ∷ [])
+pub line-end : Parts (ascii "\\\n") (ascii "\\\n")
 unfolding cedarFrom literalAt unicodeFrom unescapeFrom escapeAt shortOr braced named withoutUnderscore digitsFrom hexDigit scalar encode
 line-end = (refl, refl)
 
 -- a backslash that ends the text
-pub lone : Parts (92 ∷ []) (92 ∷ [])
+pub lone : Parts (ascii "\\") (ascii "\\")
 unfolding cedarFrom literalAt unicodeFrom unescapeFrom escapeAt shortOr braced named withoutUnderscore digitsFrom hexDigit scalar encode
 lone = (refl, refl)
 
 -- a quote without a backslash
-pub raw-quote : Parts (34 ∷ []) (34 ∷ [])
+pub raw-quote : Parts (ascii "\"") (ascii "\"")
 unfolding cedarFrom literalAt unicodeFrom unescapeFrom escapeAt shortOr braced named withoutUnderscore digitsFrom hexDigit scalar encode
 raw-quote = (refl, refl)
 
 -- a carriage return without a backslash
-pub raw-return : Parts (13 ∷ []) (13 ∷ [])
+pub raw-return : Parts (ascii "\r") (ascii "\r")
 unfolding cedarFrom literalAt unicodeFrom unescapeFrom escapeAt shortOr braced named withoutUnderscore digitsFrom hexDigit scalar encode
 raw-return = (refl, refl)

@@ -19,7 +19,7 @@ use Rattle.escapes.specs.Walk.{plainRun, shortOf}
 use Rattle.escapes.specs.declared.Escape.{Escape}
 use Rattle.escapes.specs.declared.Escape.the-variants.{Char, Verbatim}
 use Rattle.escapes.proofs.Escapes.{Held, held, held-char, held-verbatim, short-at}
-use Rattle.escapes.proofs.Encoding.{encode-1}
+use Rattle.chars.proofs.Writing.{encode-1}
 
 pub skip : (k : ℕ) (s : List ℕ) → unescapeFrom k s ≡ unescape (drop k s)
 unfolding unescapeFrom

@@ -9,7 +9,6 @@ ghost use mathlib.Core.Option.{some};
 ghost use Prim.Native.Nat.{_+_, _-_, _≤_, _<_};
 ghost use lib.ListN.{length, getD, drop};
 ghost use Rattle.buffers.specs.Wrote.{Wrote};
-ghost use Rattle.chars.specs.Utf8.{encode};
 ghost use Rattle.escapes.specs.Unescape.{hexDigit, byteOf, ifScalar, charOr, escapeAt, unescape};
 ghost use Rattle.escapes.specs.Entry.{decoded, outputAfter};
 ghost use Rattle.escapes.specs.Walk.{plainRun, digitOr, braces, unnamed, numbered, unicodeAt, shortOf};
@@ -206,49 +205,6 @@ fn escape_at(s: &[u8], at: usize) -> Escape
     Escape::Verbatim(0)
 }
 
-// How many bytes the character c takes.
-fn char_length(c: u32) -> usize
-    ensures { λ r. ⌜ (r ≡ length (encode c)) × (r ≤ 4) ⌝ }
-{
-    if c < 0x80 {
-        return 1;
-    }
-    if c < 0x800 {
-        return 2;
-    }
-    if c < 0x10000 {
-        return 3;
-    }
-    4
-}
-
-// Appends the character c behind the first `at`. The answer is where the text then ends.
-fn put_char(out: &mut [u8], at: usize, c: u32) -> usize
-    requires { ⌜ (c < 0x110000) × (at + length (encode c) ≤ length (now out)) ⌝ }
-    ensures { λ r. ⌜ Wrote (now (out .entry)) at (now (out .exit)) r (encode c) ⌝ }
-{
-    if c < 0x80 {
-        out[at] = c as u8;
-        return at + 1;
-    }
-    if c < 0x800 {
-        out[at] = (0xc0 + c / 64) as u8;
-        out[at + 1] = (0x80 + c % 64) as u8;
-        return at + 2;
-    }
-    if c < 0x10000 {
-        out[at] = (0xe0 + c / 4096) as u8;
-        out[at + 1] = (0x80 + c / 64 % 64) as u8;
-        out[at + 2] = (0x80 + c % 64) as u8;
-        return at + 3;
-    }
-    out[at] = (0xf0 + c / 262144) as u8;
-    out[at + 1] = (0x80 + c / 4096 % 64) as u8;
-    out[at + 2] = (0x80 + c / 64 % 64) as u8;
-    out[at + 3] = (0x80 + c % 64) as u8;
-    at + 4
-}
-
 // The place of the first backslash from `from` on, or the text's end.
 fn plain_run(s: &[u8], from: usize) -> usize
     requires { ⌜ from ≤ length (now s) ⌝ }
@@ -265,7 +221,7 @@ fn plain_run(s: &[u8], from: usize) -> usize
 }
 
 // Appends what s stands for behind the first `at`, where there is just room for it. The answer is where the text then ends.
-fn unescape_into(out: &mut [u8], at: usize, s: &[u8]) -> usize
+fn append_unescaped(out: &mut [u8], at: usize, s: &[u8]) -> usize
     requires { ⌜ at + length (unescape (now s)) ≤ length (now out) ⌝ }
     ensures { λ r. ⌜ Wrote (now (out .entry)) at (now (out .exit)) r (unescape (now (s .entry))) ⌝ }
 {
@@ -288,7 +244,7 @@ fn unescape_into(out: &mut [u8], at: usize, s: &[u8]) -> usize
         }
         match escape_at(s, i) {
             Escape::Char(c, n) => {
-                end = put_char(out, end, c);
+                end = chars::append_char(out, end, c);
                 i = i + 1 + n;
             }
             Escape::Verbatim(n) => {
@@ -306,7 +262,7 @@ pub fn unescape(out: &mut [u8], at: usize, s: &[u8]) -> usize
     requires { ⌜ at + length (now s) ≤ length (now out) ⌝ }
     ensures { λ r. ⌜ Wrote (now (out .entry)) at (now (out .exit)) r (unescape (now (s .entry))) ⌝ }
 {
-    unescape_into(out, at, s)
+    append_unescaped(out, at, s)
 }
 
 // How long the text is that s stands for.
@@ -329,7 +285,7 @@ fn unescaped_length(s: &[u8]) -> usize
         }
         match escape_at(s, i) {
             Escape::Char(c, n) => {
-                count = count + char_length(c);
+                count = count + chars::char_length(c);
                 i = i + 1 + n;
             }
             Escape::Verbatim(n) => {
@@ -355,6 +311,6 @@ pub fn decode(out: &mut [u8], text: &[u8]) -> Decoded
     if out.len() < n {
         return Decoded::Refused(Refusal::OUTPUT_TOO_SHORT);
     }
-    unescape_into(&mut out[..n], 0, text);
+    append_unescaped(&mut out[..n], 0, text);
     Decoded::Written(n)
 }

@@ -14,7 +14,7 @@ use Rattle.format.specs.declared.Front.{Front}
 use Rattle.chars.specs.Utf8.{utf8}
 use Rattle.chars.specs.White.{trim}
 use Rattle.pack.specs.Pack.{Pack}
-use Rattle.heads.specs.Outcome.{ok}
+use Rattle.format.specs.Outcome.{ok}
 use Rattle.events.specs.Event.{Event}
 use Rattle.events.specs.Line.{parseLine}
 use Rattle.events.specs.Answer.{lineAnswer, readLine}
@@ -24,7 +24,7 @@ use Rattle.logs.specs.declared.Judged.the-variants.{Accepted, Refused}
 use Rattle.logs.proofs.Judging
 use Rattle.guarantees.specs.Keys.{tablesOf}
 use Rattle.guarantees.specs.Calls.{ReadInto}
-use Rattle.guarantees.specs.Lines.{Within, logLines, lineAt, EachReadOrBlank, eventsIn, FirstRefused}
+use Rattle.guarantees.specs.Lines.{InLimits, logLines, lineNumbered, EachReadOrBlank, eventsIn, FirstRefused}
 use Rattle.guarantees.proofs.LineTexts.{line-within, read-within}
 use Rattle.guarantees.proofs.Left.{read-accepted, event-read, left-tables}
 use Rattle.guarantees.proofs.Judged.{log-accepted, log-stopped}
@@ -35,17 +35,17 @@ pub line-read : {s : List ℕ} {p q : Pack} {f : Front} → ReadInto s p (LineRe
 line-read {s} w = let h = event-read w in let t = left-tables w (h .1) in (h .0, read-accepted s (h .1) .read, t .0, t .1)
 
 -- 2. A line of a log within the limits is itself within them, so reading it alone answers what it gives in its log.
-pub line-alone : (s : List ℕ) → Within s → (line : ℕ) → readLine (lineAt line (logLines s)) ≡ lineAnswer (lineAt line (logLines s))
+pub line-alone : (s : List ℕ) → InLimits s → (line : ℕ) → readLine (lineNumbered line (logLines s)) ≡ lineAnswer (lineNumbered line (logLines s))
 line-alone s w line = read-within _ (line-within s w _)
 
 -- 3. A log is accepted exactly when it is within the limits and each of its lines, read alone, is blank or read. Its count is the number of
 -- lines read.
-pub accepted-iff : (s : List ℕ) (n : ℕ) → (judgeLog s ≡ Accepted n) ↔ (Within s × EachReadOrBlank (logLines s) × (n ≡ eventsIn (logLines s)))
+pub accepted-iff : (s : List ℕ) (n : ℕ) → (judgeLog s ≡ Accepted n) ↔ (InLimits s × EachReadOrBlank (logLines s) × (n ≡ eventsIn (logLines s)))
 accepted-iff = log-accepted
 
 -- 4. Within the limits a log is refused exactly when one of its lines is. Its refusal is that of the first line refused, and its line is that
 -- line's number.
-pub refused-iff : (s : List ℕ) → Within s → (x line : ℕ) → (judgeLog s ≡ Refused x line) ↔ FirstRefused (logLines s) line x
+pub refused-iff : (s : List ℕ) → InLimits s → (x line : ℕ) → (judgeLog s ≡ Refused x line) ↔ FirstRefused (logLines s) line x
 refused-iff = log-stopped
 
 -- 5. Past the limits a log is refused as a whole, with line 0, whatever its lines are: first for its length,

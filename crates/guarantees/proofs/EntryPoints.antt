@@ -16,7 +16,7 @@ use Rattle.keys.specs.Entry.{spellKey, spellOutput}
 use Rattle.keys.proofs.spell_key
 use Rattle.keys.proofs.spell_key.Met as SpellKey
 use Rattle.keys.proofs.spell_key.Symbol as SpellKeyCode
-use Rattle.lines.specs.Entry.{Whole}
+use Rattle.lines.specs.Entry.{LineWhole}
 use Rattle.lines.proofs.read_line
 use Rattle.lines.proofs.read_line.Met as ReadLine
 use Rattle.lines.proofs.read_line.Symbol as ReadLineCode
@@ -28,7 +28,7 @@ use Rattle.listing.specs.Entry as Listing
 use Rattle.listing.proofs.list_line
 use Rattle.listing.proofs.list_line.Met as ListLine
 use Rattle.listing.proofs.list_line.Symbol as ListLineCode
-use Rattle.log_listing.specs.Stretch.{pieceAt, Written, Onward}
+use Rattle.log_listing.specs.Stretch.{stretchAt, Written, Onward}
 use Rattle.log_listing.proofs.next_stretch
 use Rattle.log_listing.proofs.next_stretch.Met as NextStretch
 use Rattle.log_listing.proofs.next_stretch.Symbol as NextStretchCode
@@ -56,33 +56,33 @@ pub cut-body-promised : {M : Type 1} → PromisedBoth cut_body.ended CutBodyCode
     (λ κs a r s. now (s .0) ≡ cutOutput r (now (a .1 .0)) (now (a .0)))
 cut-body-promised = CutBody.met
 
--- 4. Read one line into a pack: `read_line(kinds, numbers, texts, line)`. `Whole` gives the answer, and every entry of the three tables.
+-- 4. Read one line into a pack: `read_line(kinds, numbers, texts, line)`. `LineWhole` gives the answer, and every entry of the three tables.
 pub read-line-promised : {M : Type 1} → Promised read_line.ended ReadLineCode.routine M (λ κs a r s.
-    Whole (now (a .1 .1 .1 .0)) (now (a .0)) (now (a .1 .0)) (now (a .1 .1 .0)) r (now (s .0)) (now (s .1 .0)) (now (s .1 .1 .0)))
+    LineWhole (now (a .1 .1 .1 .0)) (now (a .0)) (now (a .1 .0)) (now (a .1 .1 .0)) r (now (s .0)) (now (s .1 .0)) (now (s .1 .1 .0)))
 read-line-promised = ReadLine.met
 
--- 5. Judge a log: `judge(kinds, numbers, texts, log)`. The same, with the `Whole` of logs.
+-- 5. Judge a log: `judge(kinds, numbers, texts, log)`. The same, with `JudgeWhole`.
 pub judge-promised : {M : Type 1} → Promised judge.ended JudgeCode.routine M (λ κs a r s.
-    Judge.Whole (now (a .1 .1 .1 .0)) (now (a .0)) (now (a .1 .0)) (now (a .1 .1 .0)) r (now (s .0)) (now (s .1 .0)) (now (s .1 .1 .0)))
+    Judge.JudgeWhole (now (a .1 .1 .1 .0)) (now (a .0)) (now (a .1 .0)) (now (a .1 .1 .0)) r (now (s .0)) (now (s .1 .0)) (now (s .1 .1 .0)))
 judge-promised = JudgeLog.met
 
--- 6. List one line's event: `list_line(kinds, numbers, texts, out, line, number)`. The same, with the `Whole` of listing, which gives every
+-- 6. List one line's event: `list_line(kinds, numbers, texts, out, line, number)`. The same, with `ListWhole`, which gives every
 -- byte of the output too.
 pub list-line-promised : {M : Type 1} → Promised list_line.ended ListLineCode.routine M (λ κs a r s.
-    Listing.Whole (now (a .1 .1 .1 .1 .0)) (a .1 .1 .1 .1 .1 .0) (now (a .0)) (now (a .1 .0)) (now (a .1 .1 .0)) (now (a .1 .1 .1 .0)) r
+    Listing.ListWhole (now (a .1 .1 .1 .1 .0)) (a .1 .1 .1 .1 .1 .0) (now (a .0)) (now (a .1 .0)) (now (a .1 .1 .0)) (now (a .1 .1 .1 .0)) r
     (now (s .0)) (now (s .1 .0)) (now (s .1 .1 .0)) (now (s .1 .1 .1 .0)))
 list-line-promised = ListLine.met
 
 -- 7. The next stretch of a log's night listing, which the program calls: `next_stretch(kinds, numbers, texts, links, scratch, order, spare,
 -- out, log, place)`. `Written` gives the answer, and every byte of the output; `Onward` what a loop over the calls needs.
 pub next-stretch-promised : {M : Type 1} → PromisedBoth next_stretch.ended NextStretchCode.routine M
-    (λ κs a r s. Written (pieceAt (now (a .1 .1 .1 .1 .1 .1 .1 .1 .0)) (a .1 .1 .1 .1 .1 .1 .1 .1 .1 .0)) (now (a .1 .1 .1 .1 .1 .1 .1 .0)) r (now (s .1 .1 .1 .1 .1 .1 .1 .0)))
+    (λ κs a r s. Written (stretchAt (now (a .1 .1 .1 .1 .1 .1 .1 .1 .0)) (a .1 .1 .1 .1 .1 .1 .1 .1 .1 .0)) (now (a .1 .1 .1 .1 .1 .1 .1 .0)) r (now (s .1 .1 .1 .1 .1 .1 .1 .0)))
     (λ κs a r s. Onward (now (a .1 .1 .1 .1 .1 .1 .1 .1 .0)) (a .1 .1 .1 .1 .1 .1 .1 .1 .1 .0) r (now (s .1 .1 .1 .1 .1 .1 .1 .0)))
 next-stretch-promised = NextStretch.met
 
--- 8. Merge two logs: `merge(kinds, numbers, texts, out, first, second)`. `Whole` of merging gives the answer, every entry of the three
+-- 8. Merge two logs: `merge(kinds, numbers, texts, out, first, second)`. `MergeWhole` gives the answer, every entry of the three
 -- tables and every byte of the output.
 pub merge-promised : {M : Type 1} → Promised merge.ended MergeCode.routine M (λ κs a r s.
-    Merge.Whole (now (a .1 .1 .1 .1 .0)) (now (a .1 .1 .1 .1 .1 .0)) (now (a .0)) (now (a .1 .0)) (now (a .1 .1 .0)) (now (a .1 .1 .1 .0)) r
+    Merge.MergeWhole (now (a .1 .1 .1 .1 .0)) (now (a .1 .1 .1 .1 .1 .0)) (now (a .0)) (now (a .1 .0)) (now (a .1 .1 .0)) (now (a .1 .1 .1 .0)) r
     (now (s .0)) (now (s .1 .0)) (now (s .1 .1 .0)) (now (s .1 .1 .1 .0)))
 merge-promised = MergeLogs.met

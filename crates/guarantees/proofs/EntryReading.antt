@@ -17,20 +17,20 @@ use Rattle.cuts.specs.Split.{splitFrom, splitTopLevel}
 use Rattle.cuts.specs.declared.Found.{Found}
 use Rattle.cuts.specs.declared.Found.the-variants.{At, Nothing}
 use Rattle.keys.specs.Escape.{pinned, entityUid}
-use Rattle.keys.specs.Entity.{Reading, readEntity, findEntityQuoteOpen}
+use Rattle.keys.specs.Entity.{EntityText, readEntity, findEntityQuoteOpen}
 use Rattle.keys.proofs.Trimmed.{read-key-trimmed, key-trimmed-iff}
-use Rattle.pack.specs.Value.{null, bool, integer, decimal, string, entity, array, fields}
+use Rattle.pack.specs.Value.{null, bool, integer, decimal, string, entity, array, fields, Value}
 use Rattle.values.specs.Text.{full, parts}
-use Rattle.values.specs.Parse.{Result, done, refused, parse}
-use Rattle.heads.specs.Outcome.{Outcome, ok}
+use Rattle.values.specs.Parse.{parse}
+use Rattle.format.specs.Outcome.{Outcome, ok, refused}
 use Rattle.entities.specs.Entries.{Entries, noEntry, entry, countEntries, storedKeys}
-use Rattle.entities.specs.Parse.{Key, Entry, onlyRecord, allParents, onlyKey, parseEntityParents, unlessStored, entryParts, entryClosed, entryOpened, endsInColon, beforeRecord, keyText, parseEntry, onto, parseEntries, parseEntities}
+use Rattle.entities.specs.Parse.{Key, Entry, onlyRecord, onlyKey, parseEntityParents, unlessStored, entryParts, entryClosed, entryOpened, endsInColon, beforeRecord, keyText, parseEntry, withEntry, parseEntries, parseEntities}
 use Rattle.entities.proofs.EntryLaws.{no-entries}
 use Rattle.entities.proofs.KeyTexts.{Other, read-at, key-entity, other-parse}
 use Rattle.events.specs.Event.{Event}
 use Rattle.events.specs.Line.{Behind, begins, entitiesWord, envelopeAt, parseEntitiesEnvelope, parseLine}
 use Rattle.events.proofs.LineParts.{never, same-answer, taken, line-parts}
-use Rattle.guarantees.specs.Keys.{entryAt, upTo, entitiesBody, keyTextBefore, keyTextOf}
+use Rattle.guarantees.specs.Keys.{entryAt, bodyUpTo, entitiesBody, keyTextBefore, keyTextOf}
 
 -- ---- a value that is an entity
 
@@ -39,23 +39,23 @@ unfolding parse
 parse-trim zero s = refl
 parse-trim (suc k) s = rw (trim-idempotent s)
 
-entity-trimmed : (s ty id : List ℕ) → trim s ≡ s → parse levels s ≡ done (entity ty id) → readEntity s ≡ Reading.entity ty id
+entity-trimmed : (s ty id : List ℕ) → trim s ≡ s → parse levels s ≡ ok (entity ty id) → readEntity s ≡ EntityText.entity ty id
 entity-trimmed s ty id t e = go (findEntityQuoteOpen s) refl
   where
-    go : (f : Found) → findEntityQuoteOpen s ≡ f → readEntity s ≡ Reading.entity ty id
+    go : (f : Found) → findEntityQuoteOpen s ≡ f → readEntity s ≡ EntityText.entity ty id
     go Nothing f = absurd (subst Other e (other-parse levels 128 s refl t f))
     go (At p) f =
         let k = same-answer (sym (key-entity s p _ t f refl) ∙ ap onlyKey e) in
-        read-at s p f ∙ ap (λ (x : Key). Reading.entity (x .type) (x .id)) k
+        read-at s p f ∙ ap (λ (x : Key). EntityText.entity (x .type) (x .id)) k
 
-pub entity-read : (s ty id : List ℕ) → parse levels s ≡ done (entity ty id) → readEntity (trim s) ≡ Reading.entity ty id
+pub entity-read : (s ty id : List ℕ) → parse levels s ≡ ok (entity ty id) → readEntity (trim s) ≡ EntityText.entity ty id
 entity-read s ty id e = entity-trimmed (trim s) ty id (trim-idempotent s) (parse-trim levels s ∙ e)
 
 -- its type begins with no White_Space
-pub type-clean : (s ty id : List ℕ) → parse levels s ≡ done (entity ty id) → whiteAt ty ≡ 0
+pub type-clean : (s ty id : List ℕ) → parse levels s ≡ ok (entity ty id) → whiteAt ty ≡ 0
 type-clean s ty id e = key-trimmed-iff pinned ty id .0 (read-key-trimmed pinned s ty id (entity-read s ty id e))
 
-pub same-key : {ty id ty′ id′ : List ℕ} → done (entity ty id) ≡ done (entity ty′ id′) → entityUid pinned ty id ≡ entityUid pinned ty′ id′
+pub same-key : {ty id ty′ id′ : List ℕ} → ok (entity ty id) ≡ ok (entity ty′ id′) → entityUid pinned ty id ≡ entityUid pinned ty′ id′
 same-key {ty} {id} {ty′} {id′} e =
     let t : ty ≡ ty′ = cc in
     let i : id ≡ id′ = cc in
@@ -64,18 +64,18 @@ same-key {ty} {id} {ty′} {id′} e =
 -- ---- an entry
 
 abbrev pub ReadAs : List ℕ → Key → Type 0
-ReadAs x k = parse levels x ≡ done (entity (k .type) (k .id))
+ReadAs x k = parse levels x ≡ ok (entity (k .type) (k .id))
 
-only-key : (r : Result) (k : Key) → onlyKey r ≡ ok k → r ≡ done (entity (k .type) (k .id))
+only-key : (r : Outcome Value) (k : Key) → onlyKey r ≡ ok k → r ≡ ok (entity (k .type) (k .id))
 only-key (refused n) k e = absurd (never e)
-only-key (done (entity ty id)) k e = ap (λ (x : Key). done (entity (x .type) (x .id))) (same-answer e)
-only-key (done null) k e = absurd (never e)
-only-key (done (bool b)) k e = absurd (never e)
-only-key (done (integer n)) k e = absurd (never e)
-only-key (done (decimal s)) k e = absurd (never e)
-only-key (done (string s)) k e = absurd (never e)
-only-key (done (array vs)) k e = absurd (never e)
-only-key (done (fields fs)) k e = absurd (never e)
+only-key (ok (entity ty id)) k e = ap (λ (x : Key). ok (entity (x .type) (x .id))) (same-answer e)
+only-key (ok null) k e = absurd (never e)
+only-key (ok (bool b)) k e = absurd (never e)
+only-key (ok (integer n)) k e = absurd (never e)
+only-key (ok (decimal s)) k e = absurd (never e)
+only-key (ok (string s)) k e = absurd (never e)
+only-key (ok (array vs)) k e = absurd (never e)
+only-key (ok (fields fs)) k e = absurd (never e)
 
 module _ (before : List (List ℕ)) (en : Entry) where
   unless-stored : (e : Entry) → unlessStored before e ≡ ok en → e ≡ en
@@ -86,10 +86,10 @@ module _ (before : List (List ℕ)) (en : Entry) where
   parts-key : (uid attributes tail : List ℕ) → entryParts before uid attributes tail ≡ ok en → ReadAs uid (en .key)
   parts-key uid attributes tail e =
       let a = taken (onlyRecord (parse levels attributes)) _ en e in
-      let b = taken (allParents (parseEntityParents (trim tail))) _ en (a .next) in
+      let b = taken (parseEntityParents (trim tail)) _ en (a .next) in
       let c = taken (onlyKey (parse levels uid)) _ en (b .next) in
       only-key (parse levels uid) (c .part) (c .first)
-      ∙ ap (λ (x : Entry). done (entity (x .key .type) (x .key .id))) (unless-stored (record { key = c .part; attributes = a .part; parents = b .part }) (c .next))
+      ∙ ap (λ (x : Entry). ok (entity (x .key .type) (x .key .id))) (unless-stored (record { key = c .part; attributes = a .part; parents = b .part }) (c .next))
 
   closed-key : (uid rs : List ℕ) (f : Found) → entryClosed before uid rs f ≡ ok en → ReadAs uid (en .key)
   closed-key uid rs Nothing e = absurd (never e)
@@ -120,14 +120,14 @@ pub record Entered (xs : List (List ℕ)) (es : Entries) : Type 0 where
   pub count : length xs ≡ countEntries es
   pub reads : (i : ℕ) → i < countEntries es → ReadAs (keyTextOf (getD xs i [])) (entryAt i es)
 
-entered-more : (x : List ℕ) (xs : List (List ℕ)) (e : Entry) (es : Entries) → ReadAs (keyTextOf x) (e .key) → Entered xs es → Entered (x ∷ xs) (onto e es)
+entered-more : (x : List ℕ) (xs : List (List ℕ)) (e : Entry) (es : Entries) → ReadAs (keyTextOf x) (e .key) → Entered xs es → Entered (x ∷ xs) (withEntry e es)
 unfolding countEntries entryAt
 entered-more x xs e es k o = record {
   count = ap suc (o .count);
   reads = λ i. go i;
 }
   where
-    go : (i : ℕ) → i < suc (countEntries es) → ReadAs (keyTextOf (getD (x ∷ xs) i [])) (entryAt i (onto e es))
+    go : (i : ℕ) → i < suc (countEntries es) → ReadAs (keyTextOf (getD (x ∷ xs) i [])) (entryAt i (withEntry e es))
     go zero h = k
     go (suc i) h = o .reads i (omega arith)
 
@@ -142,20 +142,20 @@ entered before (x ∷ xs) es e =
 
 -- ---- of a line
 
-closed-body : (s : List ℕ) (f : Found) (en : Behind Entries) → envelopeAt parseEntities entitiesUnclosed s f ≡ ok en → parseEntities (upTo f s) ≡ ok (en .part)
+closed-body : (s : List ℕ) (f : Found) (en : Behind Entries) → envelopeAt parseEntities entitiesUnclosed s f ≡ ok en → parseEntities (bodyUpTo f s) ≡ ok (en .part)
 closed-body s Nothing en e = absurd (never e)
 closed-body s (At c) en e =
     let a = taken (parseEntities (take c s)) _ en e in
     a .first ∙ ap (λ (b : Behind Entries). ok (b .part)) (same-answer (a .next))
 
 body-read : (s : List ℕ) (en : Behind Entries) → parseEntitiesEnvelope s ≡ ok en
-    → parseEntities (cond (begins entitiesWord s) (upTo (matchingParen (drop 9 s)) (drop 9 s)) []) ≡ ok (en .part)
+    → parseEntities (cond (begins entitiesWord s) (bodyUpTo (matchingParen (drop 9 s)) (drop 9 s)) []) ≡ ok (en .part)
 unfolding parseEntitiesEnvelope
 body-read s en e = go (begins entitiesWord s) e
   where
     go : (t : Bool)
         → cond t (envelopeAt parseEntities entitiesUnclosed (drop 9 s) (matchingParen (drop 9 s))) (ok (record { part = noEntry; rest = s })) ≡ ok en
-        → parseEntities (cond t (upTo (matchingParen (drop 9 s)) (drop 9 s)) []) ≡ ok (en .part)
+        → parseEntities (cond t (bodyUpTo (matchingParen (drop 9 s)) (drop 9 s)) []) ≡ ok (en .part)
     go true e = closed-body (drop 9 s) (matchingParen (drop 9 s)) en e
     go false e = no-entries ∙ ap (λ (b : Behind Entries). ok (b .part)) (same-answer e)
 

@@ -1,10 +1,11 @@
 -- The definitions on short lines.
 -- Assumes nothing.
 use mathlib.Core.Path.{_≡_, refl}
-use mathlib.Core.List.{List, [], _∷_}
+use mathlib.Core.List.{List, [], _∷_, _++_}
 use mathlib.Core.Option.{none}
 use Prim.Native.Nat.{ℕ}
 use lib.ListN.{length}
+use Rattle.buffers.specs.Ascii.{ascii}
 use Rattle.buffers.specs.Same.{same, among}
 use Rattle.chars.specs.Utf8.{charOf, utf8From}
 use Rattle.chars.specs.White.{wideWhite, white, whiteAt, trimFrom, trimEnd}
@@ -19,38 +20,37 @@ use Rattle.numbers.specs.Integer.{i64Of}
 use Rattle.numbers.specs.Decimal.{hasDot, decimal}
 use Rattle.pack.specs.Value.{string, noField, field, countFields}
 use Rattle.pack.specs.Pack.{emptyPack, put}
-use Rattle.pack.specs.Walk.{children, skip, pastAt, textAt}
+use Rattle.pack.specs.Walk.{children, skip, pastAt, textAt, textsFrom}
 use Rattle.values.specs.Text.{full, parts, wrapped}
-use Rattle.values.specs.Parse.{scalarOf, wordOr, unlessSeen, fieldValue, fieldOf, fieldThen, parseFields, parseTrimmed, parse}
-use Rattle.heads.specs.Outcome.{ok}
+use Rattle.values.specs.Parse.{scalarOf, wordOr, unlessSeen, fieldValue, parseFields, parseTrimmed, parse}
+use Rattle.format.specs.Outcome.{ok}
 use Rattle.heads.specs.Head.{quoteOpenFrom, doubleColon, namesFrom, kindIn, parseEventHead, putTexts, countTexts}
 use Rattle.entities.specs.Entries.{noEntry, countEntries, putEntries}
-use Rattle.entities.specs.Walk.{keysAt}
 use Rattle.events.specs.Event.{Event, putEvent}
 use Rattle.events.specs.Line.{parseArgs, byteFrom, lastFrom, whiteFrom, parseTime, begins, parseScope, parseEntitiesEnvelope, parseContext, parseGroup, lookup, parseLine}
 use Rattle.events.specs.Answer.{lineAnswer, readLine}
 use Rattle.logs.specs.Lines.{linesOf, marked, unmarked}
-use Rattle.guarantees.specs.Keys.{pastAll, entitiesNode, keysIn, entitiesBody, keyTextOf}
-use Rattle.guarantees.specs.Lines.{logLines, lineAt, eventsIn}
+use Rattle.guarantees.specs.Keys.{keysIn, entitiesBody, keyTextOf}
+use Rattle.guarantees.specs.Lines.{logLines, lineNumbered, eventsIn}
 
 -- `@0 entities(a::"":{})::""::k()` has one stored key, a::"": time, two that are absent, an array of one part, action, kind, two records,
 -- and then the entities
 one-key : keysIn (record {
   kinds = 4 ∷ 0 ∷ 0 ∷ 8 ∷ 10 ∷ 10 ∷ 10 ∷ 9 ∷ 9 ∷ 9 ∷ 10 ∷ 9 ∷ 8 ∷ [];
   numbers = 0 ∷ 0 ∷ 0 ∷ 1 ∷ 0 ∷ 0 ∷ 1 ∷ 0 ∷ 0 ∷ 1 ∷ 4294967301 ∷ 0 ∷ 0 ∷ [];
-  texts = 107 ∷ 97 ∷ 58 ∷ 58 ∷ 34 ∷ 34 ∷ [];
-}) ≡ (97 ∷ 58 ∷ 58 ∷ 34 ∷ 34 ∷ []) ∷ []
-unfolding keysIn entitiesNode pastAll pastAt skip children keysAt textAt
+  texts = ascii "ka::\"\"";
+}) ≡ ascii "a::\"\"" ∷ []
+unfolding keysIn pastAt skip children textsFrom textAt
 one-key = refl
 
 abbrev line : List ℕ
-line = 64 ∷ 48 ∷ 32 ∷ 101 ∷ 110 ∷ 116 ∷ 105 ∷ 116 ∷ 105 ∷ 101 ∷ 115 ∷ 40 ∷ 97 ∷ 58 ∷ 58 ∷ 34 ∷ 34 ∷ 58 ∷ 123 ∷ 125 ∷ 41 ∷ 58 ∷ 58 ∷ 34 ∷ 34 ∷ 58 ∷ 58 ∷ 107 ∷ 40 ∷ 41 ∷ []
+line = ascii "@0 entities(a::\"\":{})::\"\"::k()"
 
-body : entitiesBody line ≡ 97 ∷ 58 ∷ 58 ∷ 34 ∷ 34 ∷ 58 ∷ 123 ∷ 125 ∷ []
+body : entitiesBody line ≡ ascii "a::\"\":{}"
 unfolding entitiesBody parseTime whiteFrom whiteAt white wideWhite charOf trimFrom trimEnd i64Of many value parseScope begins same found first firstFrom hits step opens closes
 body = refl
 
-key-text : keyTextOf (97 ∷ 58 ∷ 58 ∷ 34 ∷ 34 ∷ 32 ∷ 58 ∷ 123 ∷ 125 ∷ []) ≡ 97 ∷ 58 ∷ 58 ∷ 34 ∷ 34 ∷ []
+key-text : keyTextOf (ascii "a::\"\" :{}") ≡ ascii "a::\"\""
 unfolding keyTextOf found first firstFrom hits step opens closes trimFrom trimEnd whiteAt white wideWhite charOf
 key-text = refl
 
@@ -60,14 +60,14 @@ tight = record {
   time = 0;
   principal = none;
   resource = none;
-  head = record { namespace = [] ∷ []; action = []; kind = 107 ∷ [] };
+  head = record { namespace = [] ∷ []; action = []; kind = ascii "k" };
   logged = field [] (string []) noField;
   context = noField;
   entities = noEntry;
 }
 
-tightest : parseLine (64 ∷ 48 ∷ 32 ∷ 58 ∷ 58 ∷ 34 ∷ 34 ∷ 58 ∷ 58 ∷ 107 ∷ 40 ∷ 58 ∷ 41 ∷ []) ≡ ok tight
-unfolding parseLine parseTime whiteFrom whiteAt white wideWhite charOf trimFrom trimEnd i64Of many value parseScope parseEntitiesEnvelope parseContext begins same parseGroup byteFrom lastFrom parseEventHead quoteOpenFrom Rattle.keys.specs.Entity.opens quoteFrom unescapeFrom kindIn doubleColon namesFrom parseArgs parts full splitTopLevel splitFrom onto hits step opens closes first firstFrom parseFields fieldThen fieldOf fieldValue unlessSeen among parse parseTrimmed wordOr wrapped scalarOf readEntity entityFrom decimal hasDot lookup
+tightest : parseLine (ascii "@0 ::\"\"::k(:)") ≡ ok tight
+unfolding parseLine parseTime whiteFrom whiteAt white wideWhite charOf trimFrom trimEnd i64Of many value parseScope parseEntitiesEnvelope parseContext begins same parseGroup byteFrom lastFrom parseEventHead quoteOpenFrom Rattle.keys.specs.Entity.opensId quoteFrom unescapeFrom kindIn doubleColon namesFrom parseArgs parts full splitTopLevel splitFrom onto hits step opens closes first firstFrom parseFields fieldValue unlessSeen among parse parseTrimmed wordOr wrapped scalarOf readEntity entityFrom decimal hasDot lookup
 tightest = refl
 
 twelve : length (putEvent tight emptyPack .kinds) ≡ 12
@@ -76,12 +76,12 @@ twelve = refl
 
 -- a line feed and `@0 ::""::k()`: the second line is that, and the first is blank
 abbrev small : List ℕ
-small = 64 ∷ 48 ∷ 32 ∷ 58 ∷ 58 ∷ 34 ∷ 34 ∷ 58 ∷ 58 ∷ 107 ∷ 40 ∷ 41 ∷ []
+small = ascii "@0 ::\"\"::k()"
 
-second-line : lineAt 2 (logLines (10 ∷ small)) ≡ small
+second-line : lineNumbered 2 (logLines (ascii "\n" ++ small)) ≡ small
 unfolding linesOf unmarked marked onto
 second-line = refl
 
-one-event : eventsIn (logLines (10 ∷ small)) ≡ 1
-unfolding linesOf unmarked marked eventsIn readLine lineAnswer utf8From parseLine parseTime whiteFrom whiteAt white wideWhite charOf trimFrom trimEnd i64Of many value parseScope parseEntitiesEnvelope parseContext begins same parseGroup byteFrom lastFrom parseEventHead quoteOpenFrom Rattle.keys.specs.Entity.opens quoteFrom unescapeFrom kindIn doubleColon namesFrom parseArgs parts full splitTopLevel splitFrom onto parseFields lookup
+one-event : eventsIn (logLines (ascii "\n" ++ small)) ≡ 1
+unfolding linesOf unmarked marked eventsIn readLine lineAnswer utf8From parseLine parseTime whiteFrom whiteAt white wideWhite charOf trimFrom trimEnd i64Of many value parseScope parseEntitiesEnvelope parseContext begins same parseGroup byteFrom lastFrom parseEventHead quoteOpenFrom Rattle.keys.specs.Entity.opensId quoteFrom unescapeFrom kindIn doubleColon namesFrom parseArgs parts full splitTopLevel splitFrom onto parseFields lookup
 one-event = refl

@@ -26,7 +26,7 @@ use Rattle.logs.specs.Lines.{linesOf, marked, unmarked, behind, onward, walkFro
 use Rattle.logs.specs.Judge.{counted, countLine}
 use Rattle.logs.specs.Events.{EventLine, gathered, gather, eventLines}
 use Rattle.event_lines.specs.Laid.{laid, lineTexts}
-use Rattle.guarantees.specs.Lines.{Within, logLines}
+use Rattle.guarantees.specs.Lines.{InLimits, logLines}
 use Rattle.guarantees.proofs.LineTexts.{line-within, read-within}
 use Rattle.guarantees.proofs.TrimmedTexts.{Feedless, utf8-trim, lines-feedless, trim-feedless}
 
@@ -62,7 +62,7 @@ gathered-sound (x ∷ xs) f u = go (lineAnswer x) refl (gathered-sound xs (f .1)
     go blank h rest = rest
     go (refused n) h rest = rest
 
-pub log-sound : (s : List ℕ) → Within s → Each Sound (eventLines s)
+pub log-sound : (s : List ℕ) → InLimits s → Each Sound (eventLines s)
 log-sound s w = gathered-sound (logLines s) (lines-feedless (unmarked s)) (each-by-place (λ (x : List ℕ). utf8 x ≡ true) [] (logLines s) (λ i. line-within s w i .encoded))
 
 -- ---- such lines, laid down
@@ -109,7 +109,7 @@ unfolding Each
 laid-answers [] h = refl
 laid-answers (l ∷ ls) h =
     let s = h .0 .short in
-    let w : Within (l .text) = record { short = omega arith; encoded = h .0 .encoded } in
+    let w : InLimits (l .text) = record { short = omega arith; encoded = h .0 .encoded } in
     let first : readLine (l .text) ≡ event (l .event) = read-within (l .text) w ∙ h .0 .read in
     rw (first, laid-answers ls (h .1))
 

@@ -9,8 +9,8 @@ use native.Mathlib.Omega.{arith}
 use lib.ListN.{length, drop, length-append}
 use lib.Seq.{drop-drop, drop-at}
 use Rattle.pack.specs.Value.{Value, integer, fields}
-use Rattle.pack.specs.Pack.{Pack, node, putText, put}
-use Rattle.pack.specs.Closed.{kindsOf, textsOf, numbersOf, stretch}
+use Rattle.pack.specs.Pack.{Pack, node, putText, put, stretch}
+use Rattle.pack.specs.Closed.{kindsOf, textsOf, numbersOf}
 use Rattle.pack.specs.Walk.{children, skip, pastAt}
 use Rattle.pack.proofs.Appended.{pack-is}
 use Rattle.pack.proofs.Closed.{joined, put-closed, numbers-long}
@@ -19,7 +19,11 @@ use Rattle.pack.proofs.Laid.{past-value}
 use Rattle.heads.specs.Head.{Head, putTexts, countTexts, putHead}
 use Rattle.heads.proofs.Texts.{kindsTexts, numbersTexts, joinedTexts, texts-closed, kinds-length, numbers-length}
 use Rattle.events.specs.Event.{Event, putIf}
-use Rattle.guarantees.specs.Keys.{pastAll}
+
+-- the node behind n values
+unfoldable pub pastAll : ℕ → List ℕ → List ℕ → ℕ → ℕ
+pastAll zero ks ns at = at
+pastAll (suc n) ks ns at = pastAll n ks ns (pastAt ks ns at)
 
 -- what stands behind a part
 pub beyond : (l : List ℕ) (at n : ℕ) (a r : List ℕ) → drop at l ≡ a ++ r → length a ≡ n → drop (at + n) l ≡ r

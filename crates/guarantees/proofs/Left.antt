@@ -1,4 +1,5 @@
--- The tables that a call of `read_line` left, where it answered with an event: its pack stands in them, and its line is one that is read.
+-- The tables that a call of `read_line` left, where it answered with an event: its pack stands in them, they hold its entries, and its line is
+-- one that is read.
 -- Assumes nothing.
 use mathlib.Core.Path.{_≡_, refl, _∙_}
 use mathlib.Core.Bool.{Bool, true, false, cond}
@@ -18,13 +19,15 @@ use Rattle.pack.proofs.Appended.{pack-is}
 use Rattle.events.specs.Event.{Event, putEvent}
 use Rattle.events.specs.Answer.{Answer, event, blank, refused, lineAnswer, readLine}
 use Rattle.events.proofs.Answers.{answer-event}
-use Rattle.lines.specs.Entry.{frontOf, answerOf, enough}
+use Rattle.events.proofs.Bounds.{line-small}
+use Rattle.lines.specs.Entry.{lineReadOf, enough, sizesOf}
 use Rattle.lines.specs.declared.LineRead.{LineRead}
 use Rattle.lines.specs.declared.LineRead.the-variants as LineRead
-use Rattle.guarantees.specs.Keys.{Accepted, tablesOf}
+use Rattle.guarantees.specs.Keys.{Accepted, tablesOf, Holds, writtenKey}
 use Rattle.guarantees.specs.Lines.{IsRead, ReadOrBlank}
 use Rattle.guarantees.specs.Calls.{ReadInto}
-use Rattle.guarantees.proofs.Standing.{tables-padded}
+use Rattle.guarantees.proofs.EntryReading.{type-clean, line-entered}
+use Rattle.guarantees.proofs.Standing.{tables-padded, keys-stand}
 
 -- ---- a line that is read
 
@@ -40,9 +43,15 @@ read-accepted s {e} h = line-read s e (go (leb (length s) textLimit) (utf8 s) h)
     go true false h = let z : _≡_ {A = ℕ} 0 1 = cc in absurd (omega arith)
     go false b h = let z : _≡_ {A = ℕ} 0 1 = cc in absurd (omega arith)
 
+accepted-holds : {s : List ℕ} {e : Event} → Accepted s e → (rest : Pack) → Holds (tablesOf e rest) (e .entities)
+accepted-holds {s} {e} a rest = record {
+  keys = keys-stand e rest (let short = a .short in omega (arith, line-small s e (a .read) .1));
+  types = λ i h. type-clean (writtenKey i s) _ _ (line-entered s e (a .read) .reads i h);
+}
+
 -- ---- a call
 
-event-answer : (a : Answer) (f : Front) → LineRead.Event f ≡ answerOf a → (e : Event) × (a ≡ event e)
+event-answer : (a : Answer) (f : Front) → LineRead.Event f ≡ lineReadOf a → (e : Event) × (a ≡ event e)
 event-answer (event e) f h = (e, refl)
 event-answer blank f h = let z : _≡_ {A = ℕ} 0 1 = cc in absurd (omega arith)
 event-answer (refused n) f h = let z : _≡_ {A = ℕ} 0 1 = cc in absurd (omega arith)
@@ -54,7 +63,7 @@ long-enough false a f h = let z : _≡_ {A = ℕ} 0 1 = cc in absurd (omega arit
 
 module _ {s : List ℕ} {p q : Pack} where
   enough-lent : {f : Front} → ReadInto s p (LineRead.Event f) q → enough (p .kinds) (p .numbers) (p .texts) ≡ true
-  enough-lent {f} w = long-enough _ (answerOf (readLine s)) f (w .answer)
+  enough-lent {f} w = long-enough _ (lineReadOf (readLine s)) f (w .answer)
 
   pub event-read : {f : Front} → ReadInto s p (LineRead.Event f) q → IsRead s
   event-read {f} w = event-answer (readLine s) f (rw (enough-lent w) at (w .answer))
@@ -66,7 +75,10 @@ module _ {s : List ℕ} {p q : Pack} where
       let o = tables-padded nodesUsed textsUsed e past in
       (o .0, pack-is _ _ (w .kinds ∙ rw (b, h)) (w .numbers ∙ rw (b, h)) (w .texts ∙ rw (b, h)) ∙ o .1)
 
+  pub tables-hold : {f : Front} {e : Event} → ReadInto s p (LineRead.Event f) q → readLine s ≡ event e → Holds q (e .entities)
+  tables-hold {f} {e} w h = rw (left-tables w h .1) (accepted-holds (read-accepted s h) (left-tables w h .0))
+
   pub taken-line : {r : LineRead} → ReadOrBlank s → enough (p .kinds) (p .numbers) (p .texts) ≡ true → ReadInto s p r q
       → (r ≡ LineRead.Blank) ⊎ ((f : Front) × (r ≡ LineRead.Event f))
   taken-line (inl h) b w = inl (w .answer ∙ rw (b, h))
-  taken-line (inr (e, h)) b w = inr (frontOf (putEvent e emptyPack), w .answer ∙ rw (b, h))
+  taken-line (inr (e, h)) b w = inr (sizesOf (putEvent e emptyPack), w .answer ∙ rw (b, h))

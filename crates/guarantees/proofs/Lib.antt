@@ -1,10 +1,15 @@
 pub mod EntryPoints
+pub mod Refusals
 pub mod Agreement
+pub mod DistinctNames
+pub mod StoredKeys
 pub mod PackKeys
 pub mod NightListing
 pub mod Merging
 pub mod ProofSet
-pub mod StoredKeys
+pub mod LineEntries
+mod Consequence
+mod RefusalLaws
 mod LineTexts
 mod Walked
 mod Judged

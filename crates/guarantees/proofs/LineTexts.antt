@@ -1,7 +1,7 @@
 -- A line of a text that is UTF-8 and not too long is itself such a text: it is cut at line feeds, which are ASCII.
 -- Assumes nothing.
 use mathlib.Core.Path.{_≡_, refl, sym, ap, _∙_}
-use mathlib.Core.Bool.{Bool, true, false, cond, _&&_}
+use mathlib.Core.Bool.{true, _&&_}
 use mathlib.Core.List.{List, [], _∷_}
 use mathlib.Core.Logic.{⊎-elim}
 use Prim.Native.Nat.{ℕ, zero, suc, _+_, _≤_, _<_}
@@ -9,7 +9,7 @@ use native.Mathlib.Nat.{eq-or-lt-of-le}
 use native.Mathlib.Omega.{arith}
 use lib.Dec.{eqb}
 use lib.ListN.{length, getD, take, drop, length-drop}
-use lib.Seq.{length-take-le, drop-cons, drop-drop}
+use lib.Seq.{take-all, length-take-le, drop-cons, drop-drop}
 use borrow.Author.Tests.{eqb-true, le-leb}
 use Rattle.buffers.proofs.Choice.{by-cond, and-left, and-right}
 use Rattle.format.specs.Limits.{textLimit}
@@ -20,29 +20,9 @@ use Rattle.chars.proofs.Boundary.{starts-low, utf8-cut}
 use Rattle.events.specs.Answer.{lineAnswer, readLine}
 use Rattle.logs.specs.Lines.{linesOf, marked, unmarked}
 use Rattle.logs.specs.Post.{lineEnd}
-use Rattle.logs.proofs.Cutting.{lines-last, lines-more}
-use Rattle.guarantees.specs.Lines.{Within, logLines}
-
--- ---- the first line feed
-
-end-inside : (s : List ℕ) → lineEnd s ≤ length s
-unfolding lineEnd
-end-inside [] = omega arith
-end-inside (a ∷ r) = go (eqb a 10) (end-inside r)
-  where
-    go : (t : Bool) → lineEnd r ≤ length r → cond t 0 (suc (lineEnd r)) ≤ suc (length r)
-    go true h = omega arith
-    go false h = omega arith
-
-line-feed : (s : List ℕ) → lineEnd s < length s → getD s (lineEnd s) 0 ≡ 10
-unfolding lineEnd
-line-feed [] h = absurd (omega arith)
-line-feed (a ∷ r) h = go (eqb a 10) refl h (line-feed r)
-  where
-    go : (t : Bool) → eqb a 10 ≡ t → cond t 0 (suc (lineEnd r)) < suc (length r) → (lineEnd r < length r → getD r (lineEnd r) 0 ≡ 10)
-        → getD (a ∷ r) (cond t 0 (suc (lineEnd r))) 0 ≡ 10
-    go true e h next = eqb-true a 10 e
-    go false e h next = next (omega arith)
+use Rattle.logs.proofs.Cutting.{lines-none, lines-first}
+use Rattle.logs.proofs.Feeds.{line-end-within, feed-there}
+use Rattle.guarantees.specs.Lines.{InLimits, logLines}
 
 -- ---- a text, cut at it
 
@@ -76,13 +56,13 @@ Pieces s = (i : ℕ) → Piece (length s) (getD (linesOf s) i [])
 -- a text with a byte, where the lines of shorter texts are such pieces
 cut-pieces : (s : List ℕ) → 0 < length s → utf8 s ≡ true → ((r : List ℕ) → length r < length s → utf8 r ≡ true → Pieces r) → Pieces s
 cut-pieces s h u shorter i = ⊎-elim
-    (λ (e : lineEnd s ≡ length s). rw (lines-last s h e) (alone i))
-    (λ (l : lineEnd s < length s). rw (lines-more s l) (more l (halves s (lineEnd s) l (line-feed s l) u) i))
-    (eq-or-lt-of-le (end-inside s))
+    (λ (e : lineEnd s ≡ length s). rw (lines-first s h) (alone e i))
+    (λ (l : lineEnd s < length s). rw (lines-first s h) (more l (halves s (lineEnd s) l (feed-there s l) u) i))
+    (eq-or-lt-of-le (line-end-within s))
   where
-    alone : (i : ℕ) → Piece (length s) (getD (s ∷ []) i [])
-    alone zero = record { short = omega arith; encoded = u }
-    alone (suc i) = empty-piece (length s)
+    alone : lineEnd s ≡ length s → (i : ℕ) → Piece (length s) (getD (take (lineEnd s) s ∷ linesOf (drop (lineEnd s + 1) s)) i [])
+    alone e zero = rw (take-all (lineEnd s) s (omega arith)) (record { short = omega arith; encoded = u })
+    alone e (suc i) = rw (lines-none (drop (lineEnd s + 1) s) (omega (arith, length-drop (lineEnd s + 1) s))) (empty-piece (length s))
 
     more : lineEnd s < length s → Halves s (lineEnd s) → (i : ℕ) → Piece (length s) (getD (take (lineEnd s) s ∷ linesOf (drop (lineEnd s + 1) s)) i [])
     more l o zero = record { short = omega (arith, length-take-le (lineEnd s) s (omega arith)); encoded = o .before }
@@ -121,13 +101,13 @@ unmarked-piece (a ∷ r) u = by-cond (Piece (length (a ∷ r))) (marked (a ∷ r
 
 -- ---- what reading a line of a log alone answers is what it gives in its log
 
-pub line-within : (s : List ℕ) → Within s → (i : ℕ) → Within (getD (logLines s) i [])
+pub line-within : (s : List ℕ) → InLimits s → (i : ℕ) → InLimits (getD (logLines s) i [])
 line-within s w i =
     let a = unmarked-piece s (w .encoded) in
     let b = pieces (length (unmarked s)) (unmarked s) (omega arith) (a .encoded) i in
     let short = w .short in
     record { short = omega (arith, a .short, b .short); encoded = b .encoded }
 
-pub read-within : (x : List ℕ) → Within x → readLine x ≡ lineAnswer x
+pub read-within : (x : List ℕ) → InLimits x → readLine x ≡ lineAnswer x
 unfolding readLine
 read-within x w = rw (le-leb (length x) textLimit (w .short), w .encoded)

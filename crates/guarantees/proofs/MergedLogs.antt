@@ -21,12 +21,12 @@ use Rattle.logs.specs.declared.Judged.the-variants as Judged
 use Rattle.logs.proofs.Judging.{accepted-means}
 use Rattle.event_lines.specs.Time.{timeKey, fallFrom, fallIn}
 use Rattle.event_lines.specs.Laid.{laid, lineTexts}
-use Rattle.merging.specs.Merge.{mergedLines, mergedText, mergeLogs, Whole}
+use Rattle.merging.specs.Merge.{mergedLines, mergedText, mergeLogs, MergeWhole}
 use Rattle.merging.specs.declared.Merged.{Merged}
 use Rattle.merging.specs.declared.Merged.the-variants.{Written, Refused}
 use Rattle.event_lines.proofs.Falls.{lines-no-fall}
 use Rattle.merging.proofs.Cases.{by-cases}
-use Rattle.guarantees.specs.Lines.{Within, logLines}
+use Rattle.guarantees.specs.Lines.{InLimits, logLines}
 use Rattle.guarantees.specs.Merging.{Mergeable, ReadsAs, Stays}
 use Rattle.guarantees.proofs.Judged.{accepted-within, log-walked}
 use Rattle.guarantees.proofs.MergeOrder.{each-merged, merged-ascends}
@@ -65,7 +65,7 @@ module _ (f s : List ℕ) (room : ℕ) where
       not-written h = let z : _≡_ {A = ℕ} 0 1 = cc in absurd (omega arith)
 
 -- the bytes that a call wrote
-pub call-merged : (f s k n t out : List ℕ) (count : ℕ) (k′ n′ t′ out′ : List ℕ) → Whole f s k n t out (Written count) k′ n′ t′ out′
+pub call-merged : (f s k n t out : List ℕ) (count : ℕ) (k′ n′ t′ out′ : List ℕ) → MergeWhole f s k n t out (Written count) k′ n′ t′ out′
     → (i : ℕ) × (j : ℕ) × Mergeable f s i j × (take count out′ ≡ mergedText f s)
 call-merged f s k n t out count k′ n′ t′ out′ w =
     let a : mergeLogs f s (length out) ≡ Written count = answer-written (enough k n t) (mergeLogs f s (length out)) count (w .answer) in
@@ -96,7 +96,7 @@ module _ {f s : List ℕ} {m n : ℕ} (h : Mergeable f s m n) where
   unfolding mergedText
   lines = laid-lines (mergedLines f s) sound
 
-  within : Within (mergedText f s)
+  within : InLimits (mergedText f s)
   unfolding mergedText
   within = record { short = h .short; encoded = laid-encoded (mergedLines f s) sound }
 

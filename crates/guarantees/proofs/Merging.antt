@@ -14,7 +14,7 @@ use Rattle.sorting.proofs.Sorted.{sort-permutes}
 use Rattle.events.specs.Answer.{lineAnswer}
 use Rattle.logs.specs.Events.{gather, eventLines}
 use Rattle.event_lines.specs.Time.{rank, timeKey, fallIn}
-use Rattle.merging.specs.Merge.{mergedLines, mergedText, mergeLogs, Whole}
+use Rattle.merging.specs.Merge.{mergedLines, mergedText, mergeLogs, MergeWhole}
 use Rattle.merging.specs.declared.Merged.the-variants.{Written}
 use Rattle.guarantees.specs.Lines.{logLines}
 use Rattle.guarantees.specs.Merging.{Mergeable, Rises, Subsequence, ReadsAs, Stays}
@@ -72,6 +72,6 @@ merges-again = merged-stays
 
 -- 7. All of this holds of what a call left: where it answered that so many bytes were written, these are the merged text of logs that are
 -- merged so.
-pub merged-by-call : (f s k n t out : List ℕ) (count : ℕ) (k′ n′ t′ out′ : List ℕ) → Whole f s k n t out (Written count) k′ n′ t′ out′
+pub merged-by-call : (f s k n t out : List ℕ) (count : ℕ) (k′ n′ t′ out′ : List ℕ) → MergeWhole f s k n t out (Written count) k′ n′ t′ out′
     → (i : ℕ) × (j : ℕ) × Mergeable f s i j × (take count out′ ≡ mergedText f s)
 merged-by-call = call-merged

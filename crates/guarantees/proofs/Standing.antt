@@ -1,4 +1,4 @@
--- Where an event's entries stand in the tables, and that walking over them finds their stored keys, whatever lies behind the pack.
+-- Where entries stand in the tables, and that walking over them finds their stored keys, whatever lies behind the pack.
 -- Assumes nothing.
 use mathlib.Core.Path.{_≡_, refl, ap, _∙_}
 use mathlib.Core.List.{List, _∷_, _++_, append-assoc}
@@ -10,20 +10,21 @@ use lib.ListN.{length, drop, getD, replicate, length-append, length-drop}
 use lib.Seq.{drop-cons, drop-at, getD-at}
 use Rattle.keys.specs.Escape.{pinned, entityUid}
 use Rattle.pack.specs.Value.{Value, array, fields}
-use Rattle.pack.specs.Pack.{Pack, emptyPack, node, put}
+use Rattle.pack.specs.Pack.{Pack, emptyPack, node, put, stretch}
 use Rattle.pack.specs.Padded.{padded}
-use Rattle.pack.specs.Closed.{kindsOf, textsOf, numbersOf, stretch}
+use Rattle.pack.specs.Closed.{kindsOf, textsOf, numbersOf}
 use Rattle.pack.proofs.Appended.{pack-is}
 use Rattle.pack.proofs.Closed.{joined, numbers-long}
 use Rattle.pack.proofs.Laid.{past-value, text-laid}
 use Rattle.heads.specs.Head.{putHead}
-use Rattle.entities.specs.Entries.{Entries, noEntry, entry, countEntries, storedKeys}
+use Rattle.entities.specs.Entries.{Entries, noEntry, entry, countEntries, storedKeys, putEntities}
 use Rattle.entities.specs.Closed.{kindsEntries, textsEntries, numbersEntries}
-use Rattle.entities.specs.Walk.{keysAt}
 use Rattle.entities.proofs.Laid.{putEntries-closed}
 use Rattle.events.specs.Event.{Event, putIf, putEvent}
-use Rattle.guarantees.specs.Keys.{behind, tablesOf, pastAll, entitiesNode, keysIn}
-use Rattle.guarantees.proofs.Laying.{Laid, beyond, parts-laid}
+use Rattle.guarantees.specs.Keys.{followedBy, tablesOf, keysIn}
+use Rattle.guarantees.proofs.Laying.{pastAll, Laid, beyond, parts-laid}
+use Rattle.pack.specs.Walk.{textsFrom, keysAt}
+use Rattle.pack.specs.EventParts.{entitiesAt}
 
 -- ---- the entries from a node on; only their own texts need be short, not the table
 
@@ -40,7 +41,7 @@ cell l at x r h =
 
 pub keys-laid : (es : Entries) (at st : ℕ) (ks ns ts rk rn rt : List ℕ) → drop at ks ≡ kindsEntries es ++ rk → drop at ns ≡ numbersEntries es st ++ rn
     → drop st ts ≡ textsEntries es ++ rt → length (textsEntries es) < 2 ^ 32 → keysAt (countEntries es) at ks ns ts ≡ storedKeys es
-unfolding kindsEntries numbersEntries textsEntries countEntries storedKeys keysAt
+unfolding kindsEntries numbersEntries textsEntries countEntries storedKeys textsFrom
 keys-laid noEntry at st ks ns ts rk rn rt hk hn ht l = refl
 keys-laid (entry ty id fs ps es) at st ks ns ts rk rn rt hk hn ht l =
     let y : List ℕ = entityUid pinned ty id in
@@ -71,12 +72,16 @@ keys-laid (entry ty id fs ps es) at st ks ns ts rk rn rt hk hn ht l =
 
 -- ---- the entities node is the ninth
 
--- behind eight values
+entities-closed : (es : Entries) (p : Pack)
+    → putEntities es p ≡ joined p (9 ∷ kindsEntries es) (countEntries es ∷ numbersEntries es (length (p .texts))) (textsEntries es)
+entities-closed es p = putEntries-closed es (node 9 (countEntries es) p) ∙ pack-is _ _ (append-assoc (p .kinds) _ _) (append-assoc (p .numbers) _ _) refl
+
+-- behind eight values, whatever follows the pack
 keys-ninth : (es : Entries) (q rest : Pack) → Laid 8 emptyPack q → length (textsEntries es) < 2 ^ 32
-    → keysIn (behind (joined q (9 ∷ kindsEntries es) (countEntries es ∷ numbersEntries es (length (q .texts))) (textsEntries es)) rest) ≡ storedKeys es
-unfolding keysIn entitiesNode
+    → keysIn (followedBy (joined q (9 ∷ kindsEntries es) (countEntries es ∷ numbersEntries es (length (q .texts))) (textsEntries es)) rest) ≡ storedKeys es
+unfolding keysIn pastAll
 keys-ninth es q rest o l =
-    let all = behind (joined q (9 ∷ kindsEntries es) (countEntries es ∷ numbersEntries es (length (q .texts))) (textsEntries es)) rest in
+    let all = followedBy (joined q (9 ∷ kindsEntries es) (countEntries es ∷ numbersEntries es (length (q .texts))) (textsEntries es)) rest in
     let ks : List ℕ = all .kinds in
     let ns : List ℕ = all .numbers in
     let ts : List ℕ = all .texts in
@@ -84,23 +89,18 @@ keys-ninth es q rest o l =
     let k0 : ks ≡ o .kinds ++ (9 ∷ (kindsEntries es ++ rest .kinds)) = rw (o .is) (simp append-assoc) in
     let n0 : ns ≡ o .numbers ++ (countEntries es ∷ (numbersEntries es (length (q .texts)) ++ rest .numbers)) = rw (o .is) (simp append-assoc) in
     let t0 : ts ≡ q .texts ++ (textsEntries es ++ rest .texts) = simp append-assoc in
-    let at : pastAll 8 ks ns 0 ≡ c = o .past 0 ks ns _ _ k0 n0 ∙ omega arith in
+    let at : entitiesAt ks ns ≡ c = o .past 0 ks ns _ _ k0 n0 ∙ omega arith in
     let count : getD ns c 0 ≡ countEntries es = rw n0 (getD-at (o .numbers) _ _ 0 c (o .even)) in
     let k1 = cell ks c 9 _ (ap (drop c) k0 ∙ drop-at (o .kinds) _ c refl) in
     let n1 = cell ns c (countEntries es) _ (ap (drop c) n0 ∙ drop-at (o .numbers) _ c (o .even)) in
     rw (at, count)
     (keys-laid es (c + 1) (length (q .texts)) ks ns ts _ _ _ (k1 .rest) (n1 .rest) (ap (drop (length (q .texts))) t0 ∙ drop-at (q .texts) _ (length (q .texts)) refl) l)
 
-abbrev beforeEntities : Event → Pack
-beforeEntities e =
-    put (fields (e .context)) (put (fields (e .logged)) (putHead (e .head) (putIf (e .resource) (putIf (e .principal) (node 4 (e .time) emptyPack)))))
-
-event-closed : (e : Event)
-    → putEvent e emptyPack
-    ≡ joined (beforeEntities e) (9 ∷ kindsEntries (e .entities)) (countEntries (e .entities) ∷ numbersEntries (e .entities) (length (beforeEntities e .texts))) (textsEntries (e .entities))
-event-closed e =
-    putEntries-closed (e .entities) (node 9 (countEntries (e .entities)) (beforeEntities e))
-    ∙ pack-is _ _ (append-assoc (beforeEntities e .kinds) _ _) (append-assoc (beforeEntities e .numbers) _ _) refl
+pub entities-stand : (es : Entries) (p rest : Pack) → Laid 8 emptyPack p → length (putEntities es p .texts) < 2 ^ 32 → keysIn (followedBy (putEntities es p) rest) ≡ storedKeys es
+entities-stand es p rest o l =
+    let c = entities-closed es p in
+    let t = ap (λ (q : Pack). length (q .texts)) c ∙ length-append (p .texts) (textsEntries es) in
+    ap (λ (q : Pack). keysIn (followedBy q rest)) c ∙ keys-ninth es p rest o (omega arith)
 
 -- zeros behind what was written, and then r
 padded-behind : (n : ℕ) (l r : List ℕ) → padded n l ++ r ≡ l ++ (replicate (n - length l) 0 ++ r)
@@ -115,8 +115,9 @@ pub tables-padded : (n m : ℕ) (e : Event) (past : Pack)
     } ≡ tablesOf e rest)
 tables-padded n m e past = (_, pack-is _ _ (padded-behind n (putEvent e emptyPack .kinds) (past .kinds)) (padded-behind n (putEvent e emptyPack .numbers) (past .numbers)) (padded-behind m (putEvent e emptyPack .texts) (past .texts)))
 
-pub keys-stand : (e : Event) (rest : Pack) → length (putEvent e emptyPack .texts) < 2 ^ 32 → keysIn (behind (putEvent e emptyPack) rest) ≡ storedKeys (e .entities)
-keys-stand e rest l =
-    let c = event-closed e in
-    let t = ap (λ (p : Pack). length (p .texts)) c ∙ length-append (beforeEntities e .texts) (textsEntries (e .entities)) in
-    ap (λ (p : Pack). keysIn (behind p rest)) c ∙ keys-ninth (e .entities) (beforeEntities e) rest (parts-laid e emptyPack) (omega arith)
+abbrev beforeEntities : Event → Pack
+beforeEntities e =
+    put (fields (e .context)) (put (fields (e .logged)) (putHead (e .head) (putIf (e .resource) (putIf (e .principal) (node 4 (e .time) emptyPack)))))
+
+pub keys-stand : (e : Event) (rest : Pack) → length (putEvent e emptyPack .texts) < 2 ^ 32 → keysIn (tablesOf e rest) ≡ storedKeys (e .entities)
+keys-stand e rest l = entities-stand (e .entities) (beforeEntities e) rest (parts-laid e emptyPack) l

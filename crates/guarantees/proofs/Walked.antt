@@ -9,7 +9,8 @@ use lib.ListN.{length, getD}
 use Rattle.events.specs.Answer.{Answer, event, blank, refused, lineAnswer, readLine}
 use Rattle.logs.specs.Lines.{Walked, behind, stopped, onward, walkFrom}
 use Rattle.logs.specs.Judge.{counted, countLine}
-use Rattle.guarantees.specs.Lines.{ReadOrBlank, EachReadOrBlank, FirstRefused, eventIn, eventsIn}
+use Rattle.guarantees.specs.Lines.{ReadOrBlank, EachReadOrBlank, FirstRefused, eventsIn}
+use Rattle.log_listing.specs.Night.{eventIn}
 
 -- ---- one line is not both
 

@@ -5,44 +5,52 @@ use mathlib.Core.Logic.{_⊎_, inl, inr, ⊎-elim}
 use mathlib.Core.Bool.{Bool, true, false, _&&_, _||_}
 use mathlib.Core.List.{List, [], _∷_}
 use Prim.Native.Nat.{ℕ, _+_, _-_, _≤_, _<_}
+use Prim.Native.Char.{code}
 use native.Mathlib.Nat.{add-zero}
 use native.Mathlib.Omega.{arith}
 use lib.Dec.{ltb, eqb}
 use lib.ListN.{length, drop, getD, List·getD-eq-default}
 use lib.Seq.{drop-drop, getD-drop}
 use borrow.Author.Tests.{ne-eqb, ltb-false, lt-ltb, le-ltb}
+use Rattle.buffers.specs.Ascii.{ascii}
 use Rattle.buffers.proofs.Choice.{decide, and-false}
-use Rattle.numbers.specs.Grammar.{atEnd, matches, _then_, _or_, opt, many, some}
-use Rattle.numbers.specs.Digits.{isDigit, isSign, run, signs}
-use Rattle.numbers.specs.Decimal.{letter, dot, inf, infinity, nan, exponent, number, float, hasDot, decimal}
+use Rattle.numbers.specs.Grammar.{atEnd, matches, _then_, _or_, opt, many, oneOrMore}
+use Rattle.numbers.specs.Digits.{isDigit, isSign, leadingDigits, signs}
+use Rattle.numbers.specs.Decimal.{isLetter, letter, dot, word, exponent, number, float, hasDot, decimal}
 use Rattle.numbers.proofs.Scans.{rest, digit-least, digit-most}
 use Rattle.numbers.proofs.Dotless.{Dotless, end-dotless, not-dot, one-dotless, many-dotless, or-dotless, dotless-fails}
 use Rattle.numbers.proofs.ExponentLaws.{tail, digit-stops-tail, tail-dotless}
-use Rattle.numbers.proofs.GrammarLaws.{Stops, many-run, some-run, opt-sign, by-signs, or-none}
+use Rattle.numbers.proofs.GrammarLaws.{Stops, many-run, one-or-more-run, opt-sign, by-signs, or-none}
 
 digit-stops-dot : (k : List ℕ → Bool) → Stops isDigit (dot k)
 digit-stops-dot k b r d = let l : 48 ≤ b = digit-least b d in rw (ne-eqb b 46 (λ e. omega arith))
 
 -- what follows a sign
 abbrev body : List ℕ → Bool
-body = (inf or infinity or nan or number) atEnd
+body = (word (ascii "inf") or word (ascii "infinity") or word (ascii "nan") or number) atEnd
 
 -- the same without the forms that have a dot
 abbrev plain : List ℕ → Bool
-plain = (inf or infinity or nan or (some isDigit then opt exponent)) atEnd
+plain = (word (ascii "inf") or word (ascii "infinity") or word (ascii "nan") or (oneOrMore isDigit then opt exponent)) atEnd
 
-letter-dotless : (c : ℕ) (k : List ℕ → Bool) → (eqb 46 c || eqb 46 (c - 32)) ≡ false → Dotless k → Dotless (letter c k)
-letter-dotless c k f h = one-dotless (λ b. eqb b c || eqb b (c - 32)) f k h
+letter-dotless : (c : ℕ) (k : List ℕ → Bool) → isLetter c (code ".") ≡ false → Dotless k → Dotless (letter c k)
+letter-dotless c k f h = one-dotless (isLetter c) f k h
+
+-- no letter of w is a dot
+abbrev Letters : List ℕ → Type 0
+Letters [] = Unit {0}
+Letters (c ∷ w) = (isLetter c (code ".") ≡ false) × Letters w
+
+word-dotless : (w : List ℕ) → Letters w → Dotless (word w atEnd)
+word-dotless [] h = end-dotless
+word-dotless (c ∷ w) h = letter-dotless c (word w atEnd) (h .0) (word-dotless w (h .1))
 
 plain-dotless : Dotless plain
 plain-dotless =
-    or-dotless (inf atEnd) _ (inf-dotless atEnd end-dotless)
-    (or-dotless (infinity atEnd) _ (inf-dotless _ (letter-dotless 105 _ refl (letter-dotless 110 _ refl (letter-dotless 105 _ refl (letter-dotless 116 _ refl (letter-dotless 121 _ refl end-dotless))))))
-    (or-dotless (nan atEnd) _ (letter-dotless 110 _ refl (letter-dotless 97 _ refl (letter-dotless 110 _ refl end-dotless)))
+    or-dotless _ _ (word-dotless (ascii "inf") (refl, (refl, (refl, tt))))
+    (or-dotless _ _ (word-dotless (ascii "infinity") (refl, (refl, (refl, (refl, (refl, (refl, (refl, (refl, tt)))))))))
+    (or-dotless _ _ (word-dotless (ascii "nan") (refl, (refl, (refl, tt))))
     (one-dotless isDigit refl (many isDigit tail) (many-dotless isDigit refl tail tail-dotless))))
-  where
-    inf-dotless : (k : List ℕ → Bool) → Dotless k → Dotless (inf k)
-    inf-dotless k h = letter-dotless 105 _ refl (letter-dotless 110 _ refl (letter-dotless 102 k refl h))
 
 -- a sign and digits have no dot
 dot-unsigned : (s : List ℕ) → hasDot s ≡ hasDot (drop (signs s) s)
@@ -50,8 +58,8 @@ unfolding hasDot
 dot-unsigned [] = refl
 dot-unsigned (b ∷ r) = ⊎-elim (λ d. rw (not-dot isSign refl b d, d)) (λ d. rw d) (decide (isSign b))
 
-dot-run : (s : List ℕ) → hasDot s ≡ hasDot (drop (run s) s)
-unfolding hasDot run
+dot-run : (s : List ℕ) → hasDot s ≡ hasDot (drop (leadingDigits s) s)
+unfolding hasDot leadingDigits
 dot-run [] = refl
 dot-run (b ∷ r) = ⊎-elim (λ d. rw (not-dot isDigit refl b d, d) (dot-run r)) (λ d. rw d) (decide (isDigit b))
 
@@ -63,11 +71,11 @@ decimal-unsigned s =
 
 number-parted : (t : List ℕ)
     → number atEnd t
-    ≡ ((ltb 0 (run t) && tail (drop (run t) t)) || ((ltb 0 (run t) && dot (many isDigit tail) (drop (run t) t)) || dot (some isDigit tail) (drop (run t) t)))
+    ≡ ((ltb 0 (leadingDigits t) && tail (drop (leadingDigits t) t)) || ((ltb 0 (leadingDigits t) && dot (many isDigit tail) (drop (leadingDigits t) t)) || dot (oneOrMore isDigit tail) (drop (leadingDigits t) t)))
 number-parted t =
-    let p = some-run tail digit-stops-tail t in
-    let q = some-run (dot (many isDigit tail)) (digit-stops-dot (many isDigit tail)) t in
-    let r = many-run (dot (some isDigit tail)) (digit-stops-dot (some isDigit tail)) t in
+    let p = one-or-more-run tail digit-stops-tail t in
+    let q = one-or-more-run (dot (many isDigit tail)) (digit-stops-dot (many isDigit tail)) t in
+    let r = many-run (dot (oneOrMore isDigit tail)) (digit-stops-dot (oneOrMore isDigit tail)) t in
     cc
 
 -- no dot behind the digits: no decimal
@@ -75,14 +83,14 @@ no-dot : (k : List ℕ → Bool) (s : List ℕ) → (getD s 0 0 ≡ 46 → ⊥) 
 no-dot k [] h = refl
 no-dot k (b ∷ r) h = rw (ne-eqb b 46 h)
 
-plain-fails : (t : List ℕ) → (getD (drop (run t) t) 0 0 ≡ 46 → ⊥) → (hasDot t && body t) ≡ false
+plain-fails : (t : List ℕ) → (getD (drop (leadingDigits t) t) 0 0 ≡ 46 → ⊥) → (hasDot t && body t) ≡ false
 plain-fails t h =
-    rw (number-parted t, no-dot (many isDigit tail) (drop (run t) t) h, no-dot (some isDigit tail) (drop (run t) t) h, and-false (ltb 0 (run t)), or-none (ltb 0 (run t) && tail (drop (run t) t)), ← some-run tail digit-stops-tail t)
+    rw (number-parted t, no-dot (many isDigit tail) (drop (leadingDigits t) t) h, no-dot (oneOrMore isDigit tail) (drop (leadingDigits t) t) h, and-false (ltb 0 (leadingDigits t)), or-none (ltb 0 (leadingDigits t) && tail (drop (leadingDigits t) t)), ← one-or-more-run tail digit-stops-tail t)
     (dotless-fails plain plain-dotless t)
 
 -- a dot behind the digits: no letter stands first, and one side of the dot has a digit
-first-low : (t v : List ℕ) → drop (run t) t ≡ 46 ∷ v → getD t 0 0 ≤ 57
-unfolding run
+first-low : (t v : List ℕ) → drop (leadingDigits t) t ≡ 46 ∷ v → getD t 0 0 ≤ 57
+unfolding leadingDigits
 first-low [] v e = omega arith
 first-low (b ∷ r) v e = ⊎-elim (digit-most b) (λ d. omega (arith, ap (λ (l : List ℕ). getD l 0 0) (rw d at e))) (decide (isDigit b))
 
@@ -97,20 +105,20 @@ sides true false true = refl
 sides true false false = refl
 sides false y a = refl
 
-dotted : (t v : List ℕ) → drop (run t) t ≡ 46 ∷ v → (hasDot t && body t) ≡ ((ltb 0 (run t) || ltb 0 (run v)) && tail (drop (run v) v))
+dotted : (t v : List ℕ) → drop (leadingDigits t) t ≡ 46 ∷ v → (hasDot t && body t) ≡ ((ltb 0 (leadingDigits t) || ltb 0 (leadingDigits v)) && tail (drop (leadingDigits v) v))
 unfolding hasDot
 dotted t v e =
     let l : getD t 0 0 ≤ 57 = first-low t v e in
-    let i : inf atEnd t ≡ false = letter-high 105 _ t (omega arith) l in
-    let j : infinity atEnd t ≡ false = letter-high 105 _ t (omega arith) l in
-    let n : nan atEnd t ≡ false = letter-high 110 _ t (omega arith) l in
-    rw (i, j, n, dot-run t, number-parted t, e, many-run tail digit-stops-tail v, some-run tail digit-stops-tail v)
-    (sides (ltb 0 (run t)) (ltb 0 (run v)) (tail (drop (run v) v)))
+    let i : word (ascii "inf") atEnd t ≡ false = letter-high (code "i") _ t (omega arith) l in
+    let j : word (ascii "infinity") atEnd t ≡ false = letter-high (code "i") _ t (omega arith) l in
+    let n : word (ascii "nan") atEnd t ≡ false = letter-high (code "n") _ t (omega arith) l in
+    rw (i, j, n, dot-run t, number-parted t, e, many-run tail digit-stops-tail v, one-or-more-run tail digit-stops-tail v)
+    (sides (ltb 0 (leadingDigits t)) (ltb 0 (leadingDigits v)) (tail (drop (leadingDigits v) v)))
 
 -- by the places at which the code reads: behind the sign, at the dot, behind the digits that follow it
-module _ (s : List ℕ) (start at : ℕ) (signed : start ≡ signs s) (here : at ≡ start + run (drop start s)) where
-  at-dot : drop (run (drop start s)) (drop start s) ≡ drop at s
-  at-dot = drop-drop (run (drop start s)) start s ∙ ap (λ (n : ℕ). drop n s) (sym here)
+module _ (s : List ℕ) (start at : ℕ) (signed : start ≡ signs s) (here : at ≡ start + leadingDigits (drop start s)) where
+  at-dot : drop (leadingDigits (drop start s)) (drop start s) ≡ drop at s
+  at-dot = drop-drop (leadingDigits (drop start s)) start s ∙ ap (λ (n : ℕ). drop n s) (sym here)
 
   from-start : decimal s ≡ (hasDot (drop start s) && body (drop start s))
   from-start = decimal-unsigned s ∙ ap (λ (n : ℕ). hasDot (drop n s) && body (drop n s)) (sym signed)
@@ -118,28 +126,28 @@ module _ (s : List ℕ) (start at : ℕ) (signed : start ≡ signs s) (here : at
   pub decimal-without-dot : (getD s at 0 ≡ 46 → ⊥) → decimal s ≡ false
   decimal-without-dot h = from-start ∙ plain-fails (drop start s) (λ e. h (sym first ∙ e))
     where
-      first : getD (drop (run (drop start s)) (drop start s)) 0 0 ≡ getD s at 0
+      first : getD (drop (leadingDigits (drop start s)) (drop start s)) 0 0 ≡ getD s at 0
       first = ap (λ (l : List ℕ). getD l 0 0) at-dot ∙ getD-drop at s 0 0 ∙ ap (λ (n : ℕ). getD s n 0) (add-zero at)
 
   pub decimal-too-short : length s ≤ at → decimal s ≡ false
   decimal-too-short h = decimal-without-dot (λ e. omega (arith, List·getD-eq-default s 0 h))
 
-  module _ (end : ℕ) (inside : at < length s) (isDot : getD s at 0 ≡ 46) (ends : end ≡ at + 1 + run (drop (at + 1) s)) where
-    by-sides : decimal s ≡ ((ltb 0 (run (drop start s)) || ltb 0 (run (drop (at + 1) s))) && tail (drop end s))
+  module _ (end : ℕ) (inside : at < length s) (isDot : getD s at 0 ≡ 46) (ends : end ≡ at + 1 + leadingDigits (drop (at + 1) s)) where
+    by-sides : decimal s ≡ ((ltb 0 (leadingDigits (drop start s)) || ltb 0 (leadingDigits (drop (at + 1) s))) && tail (drop end s))
     by-sides =
         from-start
         ∙ dotted (drop start s) (drop (at + 1) s) (at-dot ∙ rest s at inside ∙ ap (λ (b : ℕ). b ∷ drop (at + 1) s) isDot)
-        ∙ ap (λ (l : List ℕ). (ltb 0 (run (drop start s)) || ltb 0 (run (drop (at + 1) s))) && tail l) (drop-drop (run (drop (at + 1) s)) (at + 1) s ∙ ap (λ (n : ℕ). drop n s) (sym ends))
+        ∙ ap (λ (l : List ℕ). (ltb 0 (leadingDigits (drop start s)) || ltb 0 (leadingDigits (drop (at + 1) s))) && tail l) (drop-drop (leadingDigits (drop (at + 1) s)) (at + 1) s ∙ ap (λ (n : ℕ). drop n s) (sym ends))
 
     pub decimal-dot-alone : end ≡ start + 1 → decimal s ≡ false
-    decimal-dot-alone h = by-sides ∙ rw (le-ltb 0 (run (drop start s)) (omega arith), le-ltb 0 (run (drop (at + 1) s)) (omega arith))
+    decimal-dot-alone h = by-sides ∙ rw (le-ltb 0 (leadingDigits (drop start s)) (omega arith), le-ltb 0 (leadingDigits (drop (at + 1) s)) (omega arith))
 
     pub decimal-digits : (end ≡ start + 1 → ⊥) → decimal s ≡ tail (drop end s)
-    decimal-digits h = by-sides ∙ ap (λ (t : Bool). t && tail (drop end s)) (some-side (decide (ltb 0 (run (drop start s)))))
+    decimal-digits h = by-sides ∙ ap (λ (t : Bool). t && tail (drop end s)) (some-side (decide (ltb 0 (leadingDigits (drop start s)))))
       where
-        some-side : (ltb 0 (run (drop start s)) ≡ true) ⊎ (ltb 0 (run (drop start s)) ≡ false) → (ltb 0 (run (drop start s)) || ltb 0 (run (drop (at + 1) s))) ≡ true
+        some-side : (ltb 0 (leadingDigits (drop start s)) ≡ true) ⊎ (ltb 0 (leadingDigits (drop start s)) ≡ false) → (ltb 0 (leadingDigits (drop start s)) || ltb 0 (leadingDigits (drop (at + 1) s))) ≡ true
         some-side (inl e) = rw e
-        some-side (inr e) = rw e (positive-after (ltb-false 0 (run (drop start s)) e))
+        some-side (inr e) = rw e (positive-after (ltb-false 0 (leadingDigits (drop start s)) e))
           where
-            positive-after : run (drop start s) ≤ 0 → ltb 0 (run (drop (at + 1) s)) ≡ true
-            positive-after l = lt-ltb 0 (run (drop (at + 1) s)) (omega arith)
+            positive-after : leadingDigits (drop start s) ≤ 0 → ltb 0 (leadingDigits (drop (at + 1) s)) ≡ true
+            positive-after l = lt-ltb 0 (leadingDigits (drop (at + 1) s)) (omega arith)

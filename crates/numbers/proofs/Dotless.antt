@@ -9,7 +9,7 @@ use lib.Dec.{eqb}
 use borrow.Author.Tests.{ne-eqb}
 use Rattle.buffers.proofs.Choice.{decide, and-left, and-right, and-false, or-cases, or-false}
 use Rattle.numbers.specs.declared.Int.the-variants.{Is}
-use Rattle.numbers.specs.Grammar.{atEnd, matches, one, opt, many, some}
+use Rattle.numbers.specs.Grammar.{atEnd, matches, one, opt, many, oneOrMore}
 use Rattle.numbers.specs.Digits.{isDigit, isSign}
 use Rattle.numbers.specs.Integer.{integer, i64Of}
 use Rattle.numbers.specs.Decimal.{hasDot, decimal}
@@ -49,11 +49,11 @@ pub dotless-fails : (k : List ℕ → Bool) → Dotless k → (s : List ℕ) →
 dotless-fails k h s = ⊎-elim (λ e. rw (h s e)) (λ e. rw e (and-false (hasDot s))) (decide (k s))
 
 -- digits to the end, behind a sign or not
-pub digits-dotless : Dotless (some isDigit atEnd)
+pub digits-dotless : Dotless (oneOrMore isDigit atEnd)
 digits-dotless = one-dotless isDigit refl (many isDigit atEnd) (many-dotless isDigit refl atEnd end-dotless)
 
-pub signed-dotless : Dotless (opt (one isSign) (some isDigit atEnd))
-signed-dotless = or-dotless (one isSign (some isDigit atEnd)) (some isDigit atEnd) (one-dotless isSign refl (some isDigit atEnd) digits-dotless) digits-dotless
+pub signed-dotless : Dotless (opt (one isSign) (oneOrMore isDigit atEnd))
+signed-dotless = or-dotless (one isSign (oneOrMore isDigit atEnd)) (oneOrMore isDigit atEnd) (one-dotless isSign refl (oneOrMore isDigit atEnd) digits-dotless) digits-dotless
 
 -- an integer's text is no decimal
 pub integer-no-decimal : (s : List ℕ) → matches integer s ≡ true → decimal s ≡ false

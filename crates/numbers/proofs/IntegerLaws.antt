@@ -11,7 +11,7 @@ use lib.IntN.{pos, negℤ}
 use borrow.Author.Tests.{lt-leb, le-leb, leb-true, ne-eqb}
 use Rattle.numbers.specs.declared.Int.{Int}
 use Rattle.numbers.specs.declared.Int.the-variants.{Is, No}
-use Rattle.numbers.specs.Grammar.{atEnd, matches, many, some}
+use Rattle.numbers.specs.Grammar.{atEnd, matches, many, oneOrMore}
 use Rattle.numbers.specs.Digits.{isDigit, signs, value}
 use Rattle.numbers.specs.Twos.{inRange, twos, untwos}
 use Rattle.numbers.specs.Integer.{integer, integerOf, i64Of, upTo}
@@ -62,8 +62,8 @@ module _ (limit : ℕ) (s : List ℕ) (i : ℕ) where
   up-to-is n h l = rw (drop-of-length-le s h, le-leb n limit l)
 
 -- an integer's text is digits behind its sign
-pub integer-digits : (s : List ℕ) → matches integer s ≡ matches (some isDigit) (drop (signs s) s)
-integer-digits = opt-sign (some isDigit atEnd) no-sign-digits
+pub integer-digits : (s : List ℕ) → matches integer s ≡ matches (oneOrMore isDigit) (drop (signs s) s)
+integer-digits = opt-sign (oneOrMore isDigit atEnd) no-sign-digits
 
 pub i64-empty : (s : List ℕ) → length s ≡ 0 → No ≡ i64Of s
 unfolding i64Of
@@ -91,11 +91,11 @@ negated-cond true (suc m) = go (leb (suc m) (2 ^ 63))
 i64-minus : (s : List ℕ) → 0 < length s → getD s 0 0 ≡ 45 → i64Of s ≡ negated (upTo (2 ^ 63) (drop 1 s))
 unfolding i64Of upTo
 i64-minus [] h e = absurd (omega arith)
-i64-minus (b ∷ r) h e = rw (integer-digits (b ∷ r), e) (negated-cond (some isDigit atEnd r) (value 0 r))
+i64-minus (b ∷ r) h e = rw (integer-digits (b ∷ r), e) (negated-cond (oneOrMore isDigit atEnd r) (value 0 r))
 
 up-to-bound : (limit : ℕ) (s : List ℕ) (n : ℕ) → upTo limit s ≡ Is n → n ≤ limit
 unfolding upTo
-up-to-bound limit s n e = go (matches (some isDigit) s) (leb (value 0 s) limit) refl e
+up-to-bound limit s n e = go (matches (oneOrMore isDigit) s) (leb (value 0 s) limit) refl e
   where
     go : (t x : Bool) → leb (value 0 s) limit ≡ x → cond (t && x) (Is (value 0 s)) No ≡ Is n → n ≤ limit
     go true true l e = let v : value 0 s ≡ n = cc in omega (arith, leb-true (value 0 s) limit l)

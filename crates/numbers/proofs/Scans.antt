@@ -10,23 +10,23 @@ use lib.Seq.{drop-cons}
 use lib.Dec.{leb}
 use borrow.Author.Tests.{eq-eqb, ne-eqb, leb-true}
 use Rattle.buffers.proofs.Choice.{and-left, and-right}
-use Rattle.numbers.specs.Digits.{isDigit, isSign, run, signs}
+use Rattle.numbers.specs.Digits.{isDigit, isSign, leadingDigits, signs}
 
 -- the byte at a place and what follows it
 pub rest : (s : List ℕ) (i : ℕ) → i < length s → drop i s ≡ getD s i 0 ∷ drop (i + 1) s
 rest s i h = rw add-one (drop-cons s i 0 h)
 
 module _ (s : List ℕ) (i : ℕ) where
-  pub run-on : i < length s → isDigit (getD s i 0) ≡ true → run (drop i s) ≡ run (drop (i + 1) s) + 1
-  unfolding run
-  run-on h d = rw (rest s i h, d) (sym (add-one (run (drop (i + 1) s))))
+  pub run-on : i < length s → isDigit (getD s i 0) ≡ true → leadingDigits (drop i s) ≡ leadingDigits (drop (i + 1) s) + 1
+  unfolding leadingDigits
+  run-on h d = rw (rest s i h, d) (sym (add-one (leadingDigits (drop (i + 1) s))))
 
-  pub run-off : i < length s → isDigit (getD s i 0) ≡ false → run (drop i s) ≡ 0
-  unfolding run
+  pub run-off : i < length s → isDigit (getD s i 0) ≡ false → leadingDigits (drop i s) ≡ 0
+  unfolding leadingDigits
   run-off h d = rw (rest s i h, d)
 
-  pub run-end : length s ≤ i → run (drop i s) ≡ 0
-  unfolding run
+  pub run-end : length s ≤ i → leadingDigits (drop i s) ≡ 0
+  unfolding leadingDigits
   run-end h = rw (drop-of-length-le s h)
 
   pub sign-on : i < length s → isSign (getD s i 0) ≡ true → signs (drop i s) ≡ 1

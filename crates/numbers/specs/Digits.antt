@@ -3,20 +3,19 @@
 use mathlib.Core.Bool.{Bool, cond, _&&_, _||_}
 use mathlib.Core.List.{List, [], _∷_}
 use Prim.Native.Nat.{ℕ, suc, _+_, _-_, _*_}
+use Prim.Native.Char.{code}
 use lib.Dec.{leb, eqb}
 
--- [0-9]
 abbrev pub isDigit : ℕ → Bool
-isDigit b = leb 48 b && leb b 57
+isDigit b = leb (code "0") b && leb b (code "9")
 
--- [+-]
 abbrev pub isSign : ℕ → Bool
-isSign b = eqb b 43 || eqb b 45
+isSign b = eqb b (code "+") || eqb b (code "-")
 
 -- how many digits a text starts with
-unfoldable pub run : List ℕ → ℕ
-run [] = 0
-run (b ∷ r) = cond (isDigit b) (suc (run r)) 0
+unfoldable pub leadingDigits : List ℕ → ℕ
+leadingDigits [] = 0
+leadingDigits (b ∷ r) = cond (isDigit b) (suc (leadingDigits r)) 0
 
 -- 1 where a text starts with a sign, else 0
 abbrev pub signs : List ℕ → ℕ
@@ -26,4 +25,4 @@ signs (b ∷ r) = cond (isSign b) 1 0
 -- the number that digits say in base ten, behind those that said n
 unfoldable pub value : ℕ → List ℕ → ℕ
 value n [] = n
-value n (b ∷ r) = value (n * 10 + (b - 48)) r
+value n (b ∷ r) = value (n * 10 + (b - code "0")) r

@@ -41,5 +41,5 @@ unfoldable pub many : (ℕ → Bool) → Rule
 many t k [] = k []
 many t k (b ∷ r) = k (b ∷ r) || (t b && many t k r)
 
-abbrev pub some : (ℕ → Bool) → Rule
-some t = one t then many t
+abbrev pub oneOrMore : (ℕ → Bool) → Rule
+oneOrMore t = one t then many t

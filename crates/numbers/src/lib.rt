@@ -1,14 +1,12 @@
 // Numbers in a text: an i64 as Rust's `i64::from_str` reads it, and the test of a decimal by the syntax of `f64::from_str`.
 // Refuses nothing: what is no number is an answer. Assumes nothing of the bytes, which may be no UTF-8.
 ghost use mathlib.Core.Path.{_≡_};
-ghost use mathlib.Core.Bool.{_||_};
 ghost use Prim.Native.Nat.{_+_, _≤_, _^_};
-ghost use lib.Dec.{eqb};
 ghost use lib.ListN.{drop};
 ghost use Rattle.numbers.specs.Grammar.{matches, opt};
-ghost use Rattle.numbers.specs.Digits.{isDigit, run, signs};
+ghost use Rattle.numbers.specs.Digits.{isDigit, leadingDigits, signs};
 ghost use Rattle.numbers.specs.Integer.{i64Of, upTo};
-ghost use Rattle.numbers.specs.Decimal.{exponent, decimal};
+ghost use Rattle.numbers.specs.Decimal.{isExponentLetter, exponent, decimal};
 
 pub enum Int {
     // An i64, as a pack holds it: one below zero plus 2^64.
@@ -33,7 +31,7 @@ fn is_digit(b: u8) -> bool
 
 // Where the digits from `from` on end.
 fn digits_end(s: &[u8], from: usize) -> usize
-    ensures { λ r. ⌜ r ≡ from + run (drop from (now (s .entry))) ⌝ }
+    ensures { λ r. ⌜ r ≡ from + leadingDigits (drop from (now (s .entry))) ⌝ }
 {
     let mut i = from;
     while i < s.len() {
@@ -107,7 +105,7 @@ pub fn parse_i64(s: &[u8]) -> Int
 }
 
 fn is_exponent_letter(b: u8) -> bool
-    ensures { λ r. ⌜ r ≡ (eqb b 101 || eqb b 69) ⌝ }
+    ensures { λ r. ⌜ r ≡ isExponentLetter b ⌝ }
 {
     b == b'e' || b == b'E'
 }

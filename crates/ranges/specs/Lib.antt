@@ -1,3 +1,4 @@
 pub mod Ranges
 pub mod EscapedAnywhere
 pub mod FirstOnly
+pub mod Common

@@ -1,5 +1,5 @@
 // The code points that `escape_debug` writes as numbers, found by binary search.
-// Refuses nothing. `in_ranges` assumes that its table goes up, as its `requires` says; the two tables here do.
+// Refuses nothing. `in_ranges` assumes that its table goes up, as its `requires` says; the tables here do.
 pub mod tables;
 
 ghost use mathlib.Core.Path.{_≡_};
@@ -8,6 +8,38 @@ ghost use lib.ListN.{getD, length};
 ghost use Rattle.ranges.specs.Ranges.{member, Ascending};
 ghost use Rattle.ranges.specs.EscapedAnywhere.{escapedAnywhere};
 ghost use Rattle.ranges.specs.FirstOnly.{firstOnly};
+
+// Code points of common scripts that are in neither table: a text of these alone needs no table on the stack.
+pub const COMMON: [u32; 28] = [
+    161,
+    173,
+    174,
+    768,
+    931,
+    1155,
+    1162,
+    1328,
+    8208,
+    8232,
+    8592,
+    9258,
+    9312,
+    11124,
+    12289,
+    12330,
+    12353,
+    12439,
+    12443,
+    12544,
+    12832,
+    42125,
+    44032,
+    55204,
+    65281,
+    65438,
+    127744,
+    128729,
+];
 
 // How many boundaries of the table are at most c.
 fn boundaries_passed(table: &[u32], c: u32) -> usize
@@ -50,19 +82,4 @@ pub fn first_only() -> [u32; 762]
     ensures { λ r. ⌜ r ≡ firstOnly ⌝ }
 {
     tables::FIRST_ONLY
-}
-
-// For a few code points: each call lays the whole table on the stack.
-pub fn in_escaped_anywhere(c: u32) -> bool
-    ensures { λ r. ⌜ r ≡ member escapedAnywhere c ⌝ }
-{
-    let anywhere = escaped_anywhere();
-    in_ranges(&anywhere, c)
-}
-
-pub fn in_first_only(c: u32) -> bool
-    ensures { λ r. ⌜ r ≡ member firstOnly c ⌝ }
-{
-    let firsts = first_only();
-    in_ranges(&firsts, c)
 }

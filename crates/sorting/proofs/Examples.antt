@@ -4,9 +4,9 @@ use mathlib.Core.Path.{_≡_, refl}
 use mathlib.Core.Bool.{true, false}
 use mathlib.Core.List.{List, [], _∷_}
 use Prim.Native.Nat.{ℕ, _+_, _*_, _^_}
-use Rattle.pack.specs.Walk.{textAt}
+use Rattle.pack.specs.Walk.{textAt, placeKey}
 use Rattle.sorting.specs.Order.{precedes, insert, sortBy}
-use Rattle.sorting.specs.Places.{placeKey, sortedPart}
+use Rattle.sorting.specs.Places.{sortedPart}
 
 -- the names of document 01's listing example
 abbrev cell : List ℕ

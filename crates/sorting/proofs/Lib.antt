@@ -4,5 +4,4 @@ pub mod Sorted
 pub mod MergeLaws
 mod LoopLaws
 mod PartLaws
-mod TextLaws
 mod Examples

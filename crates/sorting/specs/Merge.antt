@@ -1,4 +1,4 @@
--- Merging two runs: the way in which `sortBy` is computed. No public contract cites it.
+-- Of inner functions alone: merging two runs, the way in which `sortBy` is computed.
 -- Assumes nothing.
 use mathlib.Core.Bool.{cond}
 use mathlib.Core.List.{List, [], _∷_, _++_}

@@ -4,6 +4,7 @@ use crate::control;
 use crate::little;
 use format::Front;
 use format::Log;
+use format::Reach;
 
 // Longer than what a call uses, so that a call that goes too far shows.
 pub const KINDS: usize = 8_193;
@@ -75,7 +76,7 @@ pub fn hold(
     numbers: &[u64],
     texts: &[u8],
     pack: &[u8],
-    used: Front,
+    used: Reach,
     wrong: usize,
 ) -> bool {
     let nodes = little::four(pack, 0) as usize;
@@ -105,11 +106,11 @@ pub fn hold(
 }
 
 // How far a call with this answer uses the tables: not at all where it refuses them as too short.
-fn used_by(answer: &[u8]) -> Front {
+fn used_by(answer: &[u8]) -> Reach {
     if little::two(answer, 0) == TABLE_REFUSED {
-        return Log::empty_front();
+        return Log::empty_reach();
     }
-    Front {
+    Reach {
         nodes: Log::NODES,
         texts: Log::TEXTS,
     }

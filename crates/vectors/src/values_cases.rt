@@ -3,7 +3,7 @@ use crate::answers;
 use crate::little;
 use crate::packs;
 use format::Log;
-use values::Read;
+use format::Read;
 
 // 0 and the refusal, or 1 and the pack. Of what stands behind it in the tables nothing is promised.
 fn same_value(
@@ -14,14 +14,14 @@ fn same_value(
     answer: &[u8],
 ) -> bool {
     match read {
-        Read::Done(front) => {
-            packs::is_pack(answer, front)
+        Read::Done(reach) => {
+            packs::is_pack(answer, Log::front_of(reach))
                 & packs::hold(
-                    little::prefix(kinds, front.nodes),
-                    little::prefix_numbers(numbers, front.nodes),
-                    little::prefix(texts, front.texts),
+                    little::prefix(kinds, reach.nodes),
+                    little::prefix_numbers(numbers, reach.nodes),
+                    little::prefix(texts, reach.texts),
                     little::behind(answer, 1),
-                    front,
+                    reach,
                     0,
                 )
         }
@@ -33,7 +33,7 @@ pub fn agrees(input: &[u8], answer: &[u8]) -> bool {
     let mut kinds = [77u8; packs::KINDS];
     let mut numbers = [77u64; packs::NUMBERS];
     let mut texts = [77u8; packs::TEXTS];
-    let mut links = [77u16; 4_097];
+    let mut links = [77u16; Log::LINKS];
     if input.len() > Log::LINE_LIMIT {
         return false;
     }
@@ -42,7 +42,7 @@ pub fn agrees(input: &[u8], answer: &[u8]) -> bool {
         &mut numbers,
         &mut texts,
         &mut links,
-        Log::empty_front(),
+        Log::empty_reach(),
         input,
     );
     same_value(read, &kinds, &numbers, &texts, answer)

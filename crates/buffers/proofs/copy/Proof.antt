@@ -18,29 +18,11 @@ abbrev μ-loop : tie.MeasureT-loop
 loop-holds : tie.Need-loop-holds Inv-loop μ-loop
 loop-holds c = (omega arith, omega arith, copy-none (c .args .at) (c .args .out .now))
 
-shared-slice-read-out : tie.Need-shared-slice-read-out Inv-loop μ-loop
-shared-slice-read-out c = omega arith
-
-add-out : tie.Need-add-out Inv-loop μ-loop
-add-out c = omega arith
-
-slice-write-out : tie.Need-slice-write-out Inv-loop μ-loop
-slice-write-out c = omega arith
-
-add-i : tie.Need-add-i Inv-loop μ-loop
-add-i c = omega arith
-
-loop-less : tie.Need-loop-less Inv-loop μ-loop
-loop-less c = omega arith
-
 loop-again : tie.Need-loop-again Inv-loop μ-loop
 loop-again c =
     let l = c .before .before .loop in
     let a = c .before .before .before .args in
     (omega arith, simp length-set (omega arith), copy-more (a .at) (l .i) (a .s .now) (l .out) (a .out .now) (omega arith) (omega arith) (l .inv .2))
-
-add-result : tie.Need-add-result Inv-loop μ-loop
-add-result c = omega arith
 
 same-length : tie.Need-same-length Inv-loop μ-loop
 same-length c = c .before .loop .inv .1
@@ -54,16 +36,5 @@ returns c =
 pub copy-spec : {M : Type 1} → statement M
 copy-spec =
     tie.close
-    (tie.spec
-    Inv-loop
-    μ-loop
-    loop-holds
-    shared-slice-read-out
-    add-out
-    slice-write-out
-    add-i
-    loop-less
-    loop-again
-    add-result
-    same-length
-    returns)
+    (tie.spec Inv-loop μ-loop loop-holds (λ c. omega arith) (λ c. omega arith) (λ c. omega arith) (λ c. omega arith) (λ c. omega arith)
+    loop-again (λ c. omega arith) same-length returns)

@@ -6,17 +6,8 @@ use borrow.Author.Needs.{needs}
 use Rattle.buffers.proofs.put.Statement.{statement}
 use Rattle.buffers.proofs.put.Tie as tie
 
-slice-write-out : tie.Need-slice-write-out
-slice-write-out c = search needs
-
-add-result : tie.Need-add-result
-add-result c = search needs
-
-same-length : tie.Need-same-length
-same-length c = search needs
-
 returns : tie.Need-returns
 returns c = one (now (c .args .out)) (c .args .at) (c .args .b) (c .pre)
 
 pub put-spec : {M : Type 1} → statement M
-put-spec = tie.close (tie.spec slice-write-out add-result same-length returns)
+put-spec = tie.close (tie.spec (λ c. search needs) (λ c. search needs) (λ c. search needs) returns)

@@ -1,7 +1,6 @@
 -- `buffers::same` meets its contract. The loop's invariant: the rests are equal exactly where the texts are.
 -- Assumes nothing.
 use native.Mathlib.Omega.{arith}
-use borrow.Author.Needs.{needs}
 use mathlib.Core.Path.{_≡_, refl, sym, _∙_}
 use Prim.Native.Nat.{ℕ, _+_, _-_, _≤_}
 use lib.ListN.{length, drop}
@@ -22,20 +21,8 @@ returns c = sym (same-lengths _ _ (c .if1 .taken))
 loop-holds : tie.Need-loop-holds Inv-loop μ-loop
 loop-holds c = (omega arith, refl)
 
-shared-slice-read-if2 : tie.Need-shared-slice-read-if2 Inv-loop μ-loop
-shared-slice-read-if2 c = omega arith
-
-shared-slice-read-if2-2 : tie.Need-shared-slice-read-if2-2 Inv-loop μ-loop
-shared-slice-read-if2-2 c = omega arith
-
 returns-2 : tie.Need-returns-2 Inv-loop μ-loop
 returns-2 c = sym (c .before .before .before .before .loop .inv .1 ∙ same-differ (c .before .before .before .before .before .before .args .a .now) (c .before .before .before .before .before .before .args .b .now) (c .before .before .before .before .loop .i) (omega arith) (omega arith) (c .if2 .taken))
-
-add-i : tie.Need-add-i Inv-loop μ-loop
-add-i c = omega arith
-
-loop-less : tie.Need-loop-less Inv-loop μ-loop
-loop-less c = omega arith
 
 loop-again : tie.Need-loop-again Inv-loop μ-loop
 loop-again c = (omega arith, c .before .before .before .before .loop .inv .1 ∙ same-step (c .before .before .before .before .before .before .args .a .now) (c .before .before .before .before .before .before .args .b .now) (c .before .before .before .before .loop .i) (omega arith) (omega arith) (c .if2 .left))
@@ -46,15 +33,5 @@ returns-3 c = sym (c .before .loop .inv .1 ∙ same-end (c .before .before .befo
 pub same-spec : {M : Type 1} → statement M
 same-spec =
     tie.close
-    (tie.spec
-    Inv-loop
-    μ-loop
-    returns
-    loop-holds
-    shared-slice-read-if2
-    shared-slice-read-if2-2
-    returns-2
-    add-i
-    loop-less
-    loop-again
-    returns-3)
+    (tie.spec Inv-loop μ-loop returns loop-holds (λ c. omega arith) (λ c. omega arith) returns-2 (λ c. omega arith) (λ c. omega arith)
+    loop-again returns-3)

@@ -21,12 +21,6 @@ loop-holds c = (omega arith, omega arith, omega arith, zero-none (c .args .from)
 mul-numbers : tie.Need-mul-numbers Inv-loop μ-loop
 mul-numbers c = record { fits = omega (arith, c .before .before .good .0 .1) }
 
-slice-write-numbers : tie.Need-slice-write-numbers Inv-loop μ-loop
-slice-write-numbers c = omega arith
-
-add-i : tie.Need-add-i Inv-loop μ-loop
-add-i c = omega arith
-
 loop-less : tie.Need-loop-less Inv-loop μ-loop
 loop-less c = simp length-set (omega arith)
 
@@ -46,4 +40,4 @@ returns c =
     zero-all (a .from) (l .i) (l .numbers) (a .numbers .now) (omega arith) (omega arith) (l .inv .3)
 
 pub zero64-spec : {M : Type 1} → statement M
-zero64-spec = tie.close (tie.spec Inv-loop μ-loop loop-holds mul-numbers slice-write-numbers add-i loop-less loop-again same-length returns)
+zero64-spec = tie.close (tie.spec Inv-loop μ-loop loop-holds mul-numbers (λ c. omega arith) (λ c. omega arith) loop-less loop-again same-length returns)

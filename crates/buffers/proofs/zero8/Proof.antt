@@ -18,12 +18,6 @@ abbrev μ-loop : tie.MeasureT-loop
 loop-holds : tie.Need-loop-holds Inv-loop μ-loop
 loop-holds c = (omega arith, omega arith, omega arith, zero-none (c .args .from) (c .args .bytes .now))
 
-slice-write-bytes : tie.Need-slice-write-bytes Inv-loop μ-loop
-slice-write-bytes c = omega arith
-
-add-i : tie.Need-add-i Inv-loop μ-loop
-add-i c = omega arith
-
 loop-less : tie.Need-loop-less Inv-loop μ-loop
 loop-less c = simp length-set (omega arith)
 
@@ -43,4 +37,4 @@ returns c =
     zero-all (a .from) (l .i) (l .bytes) (a .bytes .now) (omega arith) (omega arith) (l .inv .3)
 
 pub zero8-spec : {M : Type 1} → statement M
-zero8-spec = tie.close (tie.spec Inv-loop μ-loop loop-holds slice-write-bytes add-i loop-less loop-again same-length returns)
+zero8-spec = tie.close (tie.spec Inv-loop μ-loop loop-holds (λ c. omega arith) (λ c. omega arith) loop-less loop-again same-length returns)

@@ -10,18 +10,6 @@ use Rattle.chars.proofs.Runs.{plain-none, plain-more, plain-join, plain
 use Rattle.chars.proofs.advance.Statement.{statement}
 use Rattle.chars.proofs.advance.Tie as tie
 
-shared-slice-read-a : tie.Need-shared-slice-read-a
-shared-slice-read-a c = search needs
-
-add-ascii-end : tie.Need-add-ascii-end
-add-ascii-end c = search needs
-
-ascii-end-requires : tie.Need-ascii-end-requires
-ascii-end-requires c κs = search needs
-
-sub-result : tie.Need-sub-result
-sub-result c = search needs
-
 returns : tie.Need-returns
 returns c =
     let b = c .before .before .before .before in
@@ -30,21 +18,6 @@ returns c =
     let r = c .ascii-end .ensures .0 in
     plain-advances s at (c .ascii-end .result) (omega (arith, r .forward)) (c .ascii-end .ensures .1)
     (plain-join s at (at + 1) (c .ascii-end .result) (plain-more s at at (plain-none s at) (omega (arith, c .before .if1 .taken))) r)
-
-two-bytes-requires : tie.Need-two-bytes-requires
-two-bytes-requires c κs = search needs
-
-returns-2 : tie.Need-returns-2
-returns-2 c = search needs
-
-decode-char-requires : tie.Need-decode-char-requires
-decode-char-requires c κs = search needs
-
-enum-known-n : tie.Need-enum-known-n
-enum-known-n c = search needs
-
-enum-told : tie.Need-enum-told
-enum-told c = search needs
 
 returns-3 : tie.Need-returns-3
 returns-3 c =
@@ -60,16 +33,5 @@ returns-4 c =
 pub advance-spec : {M : Type 1} → statement M
 advance-spec =
     tie.close
-    (tie.spec
-    shared-slice-read-a
-    add-ascii-end
-    ascii-end-requires
-    sub-result
-    returns
-    two-bytes-requires
-    returns-2
-    decode-char-requires
-    enum-known-n
-    enum-told
-    returns-3
-    returns-4)
+    (tie.spec (λ c. search needs) (λ c. search needs) (λ c κs. search needs) (λ c. search needs) returns (λ c κs. search needs)
+    (λ c. search needs) (λ c κs. search needs) (λ c. search needs) (λ c. search needs) returns-3 returns-4)

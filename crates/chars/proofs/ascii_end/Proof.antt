@@ -10,30 +10,6 @@ use Rattle.chars.proofs.Runs.{plain-join}
 use Rattle.chars.proofs.ascii_end.Statement.{statement}
 use Rattle.chars.proofs.ascii_end.Tie as tie
 
-sub-if1 : tie.Need-sub-if1
-sub-if1 c = search needs
-
-plain-end-requires : tie.Need-plain-end-requires
-plain-end-requires c κs = search needs
-
-returns : tie.Need-returns
-returns c = search needs
-
-add-near : tie.Need-add-near
-add-near c = search needs
-
-plain-end-requires-2 : tie.Need-plain-end-requires-2
-plain-end-requires-2 c κs = search needs
-
-returns-2 : tie.Need-returns-2
-returns-2 c = search needs
-
-blocks-end-requires : tie.Need-blocks-end-requires
-blocks-end-requires c κs = search needs
-
-plain-end-requires-3 : tie.Need-plain-end-requires-3
-plain-end-requires-3 c κs = search needs
-
 returns-3 : tie.Need-returns-3
 returns-3 c =
     let a = c .before .before .before .before .before .before .args in
@@ -49,13 +25,5 @@ returns-3 c =
 pub ascii-end-spec : {M : Type 1} → statement M
 ascii-end-spec =
     tie.close
-    (tie.spec
-    sub-if1
-    plain-end-requires
-    returns
-    add-near
-    plain-end-requires-2
-    returns-2
-    blocks-end-requires
-    plain-end-requires-3
-    returns-3)
+    (tie.spec (λ c. search needs) (λ c κs. search needs) (λ c. search needs) (λ c. search needs) (λ c κs. search needs) (λ c. search needs)
+    (λ c κs. search needs) (λ c κs. search needs) returns-3)

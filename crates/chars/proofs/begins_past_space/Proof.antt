@@ -12,12 +12,6 @@ use Rattle.chars.proofs.begins_past_space.Tie as tie
 returns : tie.Need-returns
 returns c = λ e. let z : _≡_ {A = ℕ} 0 1 = cc in absurd (omega arith)
 
-shared-slice-read-is-past-space : tie.Need-shared-slice-read-is-past-space
-shared-slice-read-is-past-space c = search needs
-
-is-past-space-requires : tie.Need-is-past-space-requires
-is-past-space-requires c κs = search needs
-
 returns-2 : tie.Need-returns-2
 returns-2 c = λ e.
     let s = now (c .before .before .before .before .args .s) in
@@ -26,4 +20,4 @@ returns-2 c = λ e.
 
 pub begins-past-space-spec : {M : Type 1} → statement M
 begins-past-space-spec =
-    tie.close (tie.spec returns shared-slice-read-is-past-space is-past-space-requires returns-2)
+    tie.close (tie.spec returns (λ c. search needs) (λ c κs. search needs) returns-2)

@@ -12,17 +12,8 @@ use Rattle.chars.proofs.begins_with_one.Tie as tie
 returns : tie.Need-returns
 returns c = λ e. let z : _≡_ {A = ℕ} 0 1 = cc in absurd (omega arith)
 
-shared-slice-read-if2 : tie.Need-shared-slice-read-if2
-shared-slice-read-if2 c = search needs
-
 returns-2 : tie.Need-returns-2
 returns-2 c = λ e. let z : _≡_ {A = ℕ} 0 1 = cc in absurd (omega arith)
-
-shared-slice-read-is-past-space : tie.Need-shared-slice-read-is-past-space
-shared-slice-read-is-past-space c = search needs
-
-is-past-space-requires : tie.Need-is-past-space-requires
-is-past-space-requires c κs = search needs
 
 returns-3 : tie.Need-returns-3
 returns-3 c = λ e.
@@ -33,10 +24,4 @@ returns-3 c = λ e.
 pub begins-with-one-spec : {M : Type 1} → statement M
 begins-with-one-spec =
     tie.close
-    (tie.spec
-    returns
-    shared-slice-read-if2
-    returns-2
-    shared-slice-read-is-past-space
-    is-past-space-requires
-    returns-3)
+    (tie.spec returns (λ c. search needs) returns-2 (λ c. search needs) (λ c κs. search needs) returns-3)

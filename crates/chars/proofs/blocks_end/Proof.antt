@@ -18,29 +18,8 @@ abbrev μ-loop : tie.MeasureT-loop
 loop-holds : tie.Need-loop-holds Inv-loop μ-loop
 loop-holds c = (c .before .pre, plain-none (c .before .args .s .now) (c .before .args .at))
 
-sub-loop : tie.Need-sub-loop Inv-loop μ-loop
-sub-loop c = omega arith
-
-add-end : tie.Need-add-end Inv-loop μ-loop
-add-end c = omega arith
-
-sub-greatest : tie.Need-sub-greatest Inv-loop μ-loop
-sub-greatest c = omega arith
-
-part-greatest-start : tie.Need-part-greatest-start Inv-loop μ-loop
-part-greatest-start c = omega arith
-
-part-greatest-end : tie.Need-part-greatest-end Inv-loop μ-loop
-part-greatest-end c = omega arith
-
-greatest-requires : tie.Need-greatest-requires Inv-loop μ-loop
-greatest-requires c κs = tt
-
 returns : tie.Need-returns Inv-loop μ-loop
 returns c = (c .before .before .before .before .loop .inv .1, c .before .before .before .before .loop .inv .0)
-
-loop-less : tie.Need-loop-less Inv-loop μ-loop
-loop-less c = omega arith
 
 loop-again : tie.Need-loop-again Inv-loop μ-loop
 loop-again c =
@@ -59,17 +38,5 @@ returns-2 c = (c .before .loop .inv .1, c .before .loop .inv .0)
 pub blocks-end-spec : {M : Type 1} → statement M
 blocks-end-spec =
     tie.close
-    (tie.spec
-    Inv-loop
-    μ-loop
-    loop-holds
-    sub-loop
-    add-end
-    sub-greatest
-    part-greatest-start
-    part-greatest-end
-    greatest-requires
-    returns
-    loop-less
-    loop-again
-    returns-2)
+    (tie.spec Inv-loop μ-loop loop-holds (λ c. omega arith) (λ c. omega arith) (λ c. omega arith) (λ c. omega arith) (λ c. omega arith)
+    (λ c κs. tt) returns (λ c. omega arith) loop-again returns-2)

@@ -7,18 +7,6 @@ use Rattle.chars.proofs.Spacing.{ends-past}
 use Rattle.chars.proofs.ends_past_space.Statement.{statement}
 use Rattle.chars.proofs.ends_past_space.Tie as tie
 
-returns : tie.Need-returns
-returns c = search needs
-
-sub-is-past-space : tie.Need-sub-is-past-space
-sub-is-past-space c = search needs
-
-shared-slice-read-is-past-space : tie.Need-shared-slice-read-is-past-space
-shared-slice-read-is-past-space c = search needs
-
-is-past-space-requires : tie.Need-is-past-space-requires
-is-past-space-requires c κs = search needs
-
 returns-2 : tie.Need-returns-2
 returns-2 c = λ e.
     let s = now (c .before .before .before .before .args .s) in
@@ -28,9 +16,4 @@ returns-2 c = λ e.
 pub ends-past-space-spec : {M : Type 1} → statement M
 ends-past-space-spec =
     tie.close
-    (tie.spec
-    returns
-    sub-is-past-space
-    shared-slice-read-is-past-space
-    is-past-space-requires
-    returns-2)
+    (tie.spec (λ c. search needs) (λ c. search needs) (λ c. search needs) (λ c κs. search needs) returns-2)

@@ -21,12 +21,6 @@ none-left (a ∷ r) = ne-eqb (length (a ∷ r)) 0 (λ (e : length (a ∷ r) ≡ 
 returns : tie.Need-returns
 returns c = sym (none-blank (now (c .before .before .args .s)) (c .if1 .taken))
 
-shared-slice-read-is-past-space : tie.Need-shared-slice-read-is-past-space
-shared-slice-read-is-past-space c = search needs
-
-is-past-space-requires : tie.Need-is-past-space-requires
-is-past-space-requires c κs = search needs
-
 returns-2 : tie.Need-returns-2
 returns-2 c =
     let s = now (c .before .before .before .before .before .args .s) in
@@ -34,19 +28,10 @@ returns-2 c =
     let some : 0 < length s = omega (arith, c .before .before .before .if1 .left) in
     sym (past-not-blank s some (begins-past s some (h .0) (h .1)))
 
-strip-requires : tie.Need-strip-requires
-strip-requires c κs = search needs
-
 returns-3 : tie.Need-returns-3
 returns-3 c = none-left (c .strip .result .now) ∙ ap empty (c .strip .ensures) ∙ trim-blank _
 
 pub is-blank-spec : {M : Type 1} → statement M
 is-blank-spec =
     tie.close
-    (tie.spec
-    returns
-    shared-slice-read-is-past-space
-    is-past-space-requires
-    returns-2
-    strip-requires
-    returns-3)
+    (tie.spec returns (λ c. search needs) (λ c κs. search needs) returns-2 (λ c κs. search needs) returns-3)

@@ -11,8 +11,5 @@ use Rattle.chars.proofs.is_past_space.Tie as tie
 returns : tie.Need-returns
 returns c = λ e. let z : _≡_ {A = ℕ} 0 1 = cc in absurd (omega arith)
 
-returns-2 : tie.Need-returns-2
-returns-2 c = search needs
-
 pub is-past-space-spec : {M : Type 1} → statement M
-is-past-space-spec = tie.close (tie.spec returns returns-2)
+is-past-space-spec = tie.close (tie.spec returns (λ c. search needs))

@@ -46,13 +46,4 @@ returns-2 c =
 pub is-utf8-spec : {M : Type 1} → statement M
 is-utf8-spec =
     tie.close
-    (tie.spec
-    Inv-loop
-    μ-loop
-    loop-holds
-    advance-requires
-    returns
-    add-at
-    loop-less
-    loop-again
-    returns-2)
+    (tie.spec Inv-loop μ-loop loop-holds advance-requires returns add-at loop-less loop-again returns-2)

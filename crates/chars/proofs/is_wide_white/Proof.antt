@@ -31,9 +31,6 @@ returns-3 c =
       eq-eqb _ _ (c .if3 .taken),
     )
 
-is-within-requires : tie.Need-is-within-requires
-is-within-requires c κs = search needs
-
 returns-4 : tie.Need-returns-4
 unfolding wideWhite
 returns-4 c =
@@ -116,14 +113,4 @@ returns-9 c =
 pub is-wide-white-spec : {M : Type 1} → statement M
 is-wide-white-spec =
     tie.close
-    (tie.spec
-    returns
-    returns-2
-    returns-3
-    is-within-requires
-    returns-4
-    returns-5
-    returns-6
-    returns-7
-    returns-8
-    returns-9)
+    (tie.spec returns returns-2 returns-3 (λ c κs. search needs) returns-4 returns-5 returns-6 returns-7 returns-8 returns-9)

@@ -18,29 +18,8 @@ abbrev μ-loop : tie.MeasureT-loop
 loop-holds : tie.Need-loop-holds Inv-loop μ-loop
 loop-holds c = (omega arith, spaces-none (c .before .args .s .now))
 
-sub-loop : tie.Need-sub-loop Inv-loop μ-loop
-sub-loop c = omega arith
-
-add-end : tie.Need-add-end Inv-loop μ-loop
-add-end c = omega arith
-
-sub-others-in : tie.Need-sub-others-in Inv-loop μ-loop
-sub-others-in c = omega arith
-
-part-others-in-start : tie.Need-part-others-in-start Inv-loop μ-loop
-part-others-in-start c = omega arith
-
-part-others-in-end : tie.Need-part-others-in-end Inv-loop μ-loop
-part-others-in-end c = omega arith
-
-others-in-requires : tie.Need-others-in-requires Inv-loop μ-loop
-others-in-requires c κs = tt
-
 returns : tie.Need-returns Inv-loop μ-loop
 returns c = (c .before .before .before .before .loop .inv .1, c .before .before .before .before .loop .inv .0)
-
-loop-less : tie.Need-loop-less Inv-loop μ-loop
-loop-less c = omega arith
 
 loop-again : tie.Need-loop-again Inv-loop μ-loop
 loop-again c =
@@ -56,17 +35,5 @@ returns-2 c = (c .before .loop .inv .1, c .before .loop .inv .0)
 pub spaces-blocks-spec : {M : Type 1} → statement M
 spaces-blocks-spec =
     tie.close
-    (tie.spec
-    Inv-loop
-    μ-loop
-    loop-holds
-    sub-loop
-    add-end
-    sub-others-in
-    part-others-in-start
-    part-others-in-end
-    others-in-requires
-    returns
-    loop-less
-    loop-again
-    returns-2)
+    (tie.spec Inv-loop μ-loop loop-holds (λ c. omega arith) (λ c. omega arith) (λ c. omega arith) (λ c. omega arith) (λ c. omega arith)
+    (λ c κs. tt) returns (λ c. omega arith) loop-again returns-2)

@@ -14,23 +14,11 @@ Inv-loop s i₀ i = (i ≤ length s) × Spaces s i
 abbrev μ-loop : tie.MeasureT-loop
 μ-loop s i₀ i = length s - i
 
-spaces-blocks-requires : tie.Need-spaces-blocks-requires Inv-loop μ-loop
-spaces-blocks-requires c κs = tt
-
 loop-holds : tie.Need-loop-holds Inv-loop μ-loop
 loop-holds c = (c .spaces-blocks .ensures .1, c .spaces-blocks .ensures .0)
 
-shared-slice-read-if1 : tie.Need-shared-slice-read-if1 Inv-loop μ-loop
-shared-slice-read-if1 c = omega arith
-
 returns : tie.Need-returns Inv-loop μ-loop
 returns c = (c .before .before .before .loop .inv .1, c .before .before .before .loop .inv .0)
-
-add-i : tie.Need-add-i Inv-loop μ-loop
-add-i c = omega arith
-
-loop-less : tie.Need-loop-less Inv-loop μ-loop
-loop-less c = omega arith
 
 loop-again : tie.Need-loop-again Inv-loop μ-loop
 loop-again c =
@@ -43,14 +31,4 @@ returns-2 c = (c .before .loop .inv .1, c .before .loop .inv .0)
 pub spaces-end-spec : {M : Type 1} → statement M
 spaces-end-spec =
     tie.close
-    (tie.spec
-    Inv-loop
-    μ-loop
-    spaces-blocks-requires
-    loop-holds
-    shared-slice-read-if1
-    returns
-    add-i
-    loop-less
-    loop-again
-    returns-2)
+    (tie.spec Inv-loop μ-loop (λ c κs. tt) loop-holds (λ c. omega arith) returns (λ c. omega arith) (λ c. omega arith) loop-again returns-2)

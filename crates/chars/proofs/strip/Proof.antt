@@ -6,14 +6,8 @@ use Rattle.chars.specs.White.{trimEnd}
 use Rattle.chars.proofs.strip.Statement.{statement}
 use Rattle.chars.proofs.strip.Tie as tie
 
-strip-start-requires : tie.Need-strip-start-requires
-strip-start-requires c κs = search needs
-
-strip-end-requires : tie.Need-strip-end-requires
-strip-end-requires c κs = search needs
-
 returns : tie.Need-returns
 returns c = c .strip-end .ensures ∙ ap trimEnd (c .before .strip-start .ensures)
 
 pub strip-spec : {M : Type 1} → statement M
-strip-spec = tie.close (tie.spec strip-start-requires strip-end-requires returns)
+strip-spec = tie.close (tie.spec (λ c κs. search needs) (λ c κs. search needs) returns)

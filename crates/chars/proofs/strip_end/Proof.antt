@@ -38,9 +38,6 @@ module _ (t : List ℕ) (n : ℕ) (e : EndsIn t n) (p : n ≡ 0 → ⊥) where
 loop-holds : tie.Need-loop-holds Inv-loop μ-loop
 loop-holds c = refl
 
-white-end-requires : tie.Need-white-end-requires Inv-loop μ-loop
-white-end-requires c κs = tt
-
 returns : tie.Need-returns Inv-loop μ-loop
 returns c =
     let t = c .before .before .loop .t .now in
@@ -66,13 +63,4 @@ loop-again c =
 pub strip-end-spec : {M : Type 1} → statement M
 strip-end-spec =
     tie.close
-    (tie.spec
-    Inv-loop
-    μ-loop
-    loop-holds
-    white-end-requires
-    returns
-    sub-end
-    slice-aggregate-t
-    loop-less
-    loop-again)
+    (tie.spec Inv-loop μ-loop loop-holds (λ c κs. tt) returns sub-end slice-aggregate-t loop-less loop-again)

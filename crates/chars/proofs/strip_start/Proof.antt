@@ -26,9 +26,6 @@ onward t (suc n) e p = trim-start-white t n (sym e) ∙ ap trimStart (sym (take-
 shorter : (t : List ℕ) (n : ℕ) → n ≤ length t → (n ≡ 0 → ⊥) → length (take (length t - n) (drop n t)) < length t
 shorter t n l p = rw (take-rest n t) (omega (arith, length-drop n t))
 
-spaces-end-requires : tie.Need-spaces-end-requires Inv-loop μ-loop
-spaces-end-requires c κs = tt
-
 sub-t : tie.Need-sub-t Inv-loop μ-loop
 sub-t c = omega (arith, c .spaces-end .ensures .1)
 
@@ -43,9 +40,6 @@ loop-holds c =
     let s = c .before .before .before .args .s .now in
     let n = c .before .spaces-end .result in
     spaces-trimmed s n (c .before .spaces-end .ensures .1) (c .before .spaces-end .ensures .0) ∙ ap trimStart (sym (take-rest n s))
-
-white-width-requires : tie.Need-white-width-requires Inv-loop μ-loop
-white-width-requires c κs = tt
 
 returns : tie.Need-returns Inv-loop μ-loop
 returns c =
@@ -75,18 +69,5 @@ loop-again c =
 pub strip-start-spec : {M : Type 1} → statement M
 strip-start-spec =
     tie.close
-    (tie.spec
-    Inv-loop
-    μ-loop
-    spaces-end-requires
-    sub-t
-    part-t-start
-    part-t-end
-    loop-holds
-    white-width-requires
-    returns
-    sub-t-2
-    part-t-start-2
-    part-t-end-2
-    loop-less
-    loop-again)
+    (tie.spec Inv-loop μ-loop (λ c κs. tt) sub-t part-t-start part-t-end loop-holds (λ c κs. tt) returns sub-t-2 part-t-start-2 part-t-end-2
+    loop-less loop-again)

@@ -9,14 +9,8 @@ use Rattle.chars.proofs.Trimming.{trim-start-stays}
 use Rattle.chars.proofs.trim_start.Statement.{statement}
 use Rattle.chars.proofs.trim_start.Tie as tie
 
-begins-past-space-requires : tie.Need-begins-past-space-requires
-begins-past-space-requires c κs = search needs
-
 returns : tie.Need-returns
 returns c = sym (trim-start-stays (now (c .before .before .before .args .s)) (c .before .begins-past-space .ensures (c .if1 .taken)))
-
-begins-with-one-requires : tie.Need-begins-with-one-requires
-begins-with-one-requires c κs = search needs
 
 sub-result : tie.Need-sub-result
 sub-result c = omega (arith, c .before .begins-with-one .ensures (c .if2 .taken) .0)
@@ -30,22 +24,8 @@ part-result-end c = omega (arith, c .before .begins-with-one .ensures (c .if2 .t
 returns-2 : tie.Need-returns-2
 returns-2 c = take-rest 1 (now (c .before .before .before .before .before .before .args .s)) ∙ sym (c .before .before .begins-with-one .ensures (c .before .if2 .taken) .1)
 
-strip-start-requires : tie.Need-strip-start-requires
-strip-start-requires c κs = search needs
-
-returns-3 : tie.Need-returns-3
-returns-3 c = search needs
-
 pub trim-start-spec : {M : Type 1} → statement M
 trim-start-spec =
     tie.close
-    (tie.spec
-    begins-past-space-requires
-    returns
-    begins-with-one-requires
-    sub-result
-    part-result-start
-    part-result-end
-    returns-2
-    strip-start-requires
-    returns-3)
+    (tie.spec (λ c κs. search needs) returns (λ c κs. search needs) sub-result part-result-start part-result-end returns-2
+    (λ c κs. search needs) (λ c. search needs))

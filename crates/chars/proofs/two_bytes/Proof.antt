@@ -6,23 +6,11 @@ use borrow.Author.Needs.{needs}
 use Rattle.chars.proofs.two_bytes.Statement.{statement}
 use Rattle.chars.proofs.two_bytes.Tie as tie
 
-shared-slice-read-if1 : tie.Need-shared-slice-read-if1
-shared-slice-read-if1 c = search needs
-
 returns : tie.Need-returns
 returns c = let b = c .before .before in two-first (b .args .s .now) (b .args .at) (b .pre .0) (b .pre .1) (c .if1 .taken)
 
-sub-if2 : tie.Need-sub-if2
-sub-if2 c = search needs
-
 returns-2 : tie.Need-returns-2
 returns-2 c = let b = c .before .before .before in two-short (b .args .s .now) (b .args .at) (b .pre .0) (b .pre .1) (c .if2 .taken)
-
-add-b : tie.Need-add-b
-add-b c = search needs
-
-shared-slice-read-b : tie.Need-shared-slice-read-b
-shared-slice-read-b c = search needs
 
 returns-3 : tie.Need-returns-3
 returns-3 c = let b = c .before .before .before .before .before in two-second (b .args .s .now) (b .args .at) (b .pre .0) (b .pre .1) (inl (c .if3 .taken))
@@ -38,13 +26,5 @@ returns-5 c =
 pub two-bytes-spec : {M : Type 1} → statement M
 two-bytes-spec =
     tie.close
-    (tie.spec
-    shared-slice-read-if1
-    returns
-    sub-if2
-    returns-2
-    add-b
-    shared-slice-read-b
-    returns-3
-    returns-4
+    (tie.spec (λ c. search needs) returns (λ c. search needs) returns-2 (λ c. search needs) (λ c. search needs) returns-3 returns-4
     returns-5)

@@ -10,12 +10,6 @@ use Rattle.chars.proofs.white_end.Tie as tie
 returns : tie.Need-returns
 returns c = record { some = λ l. absurd (omega arith); none = λ _ m e. let p = e .0 in let q = e .1 in omega (arith, c .if1 .taken) }
 
-shared-slice-read-last : tie.Need-shared-slice-read-last
-shared-slice-read-last c = search needs
-
-is-past-space-requires : tie.Need-is-past-space-requires
-is-past-space-requires c κs = search needs
-
 returns-2 : tie.Need-returns-2
 returns-2 c =
     let h = c .before .is-past-space .ensures (c .if2 .taken) in
@@ -24,20 +18,7 @@ returns-2 c =
 returns-3 : tie.Need-returns-3
 returns-3 c = ends-space (now (c .before .before .before .before .before .before .args .s)) (c .before .before .before .before .if1 .left) (c .if3 .taken)
 
-wide-end-requires : tie.Need-wide-end-requires
-wide-end-requires c κs = search needs
-
-returns-4 : tie.Need-returns-4
-returns-4 c = search needs
-
 pub white-end-spec : {M : Type 1} → statement M
 white-end-spec =
     tie.close
-    (tie.spec
-    returns
-    shared-slice-read-last
-    is-past-space-requires
-    returns-2
-    returns-3
-    wide-end-requires
-    returns-4)
+    (tie.spec returns (λ c. search needs) (λ c κs. search needs) returns-2 returns-3 (λ c κs. search needs) (λ c. search needs))

@@ -12,12 +12,6 @@ use Rattle.chars.proofs.white_width.Tie as tie
 returns : tie.Need-returns
 returns c = right (now (c .before .before .args .s)) 0 (sym (white-none (now (c .before .before .args .s)) (c .if1 .taken)))
 
-shared-slice-read-first : tie.Need-shared-slice-read-first
-shared-slice-read-first c = search needs
-
-is-past-space-requires : tie.Need-is-past-space-requires
-is-past-space-requires c κs = search needs
-
 returns-2 : tie.Need-returns-2
 returns-2 c =
     let s = now (c .before .before .before .before .before .args .s) in
@@ -29,20 +23,7 @@ returns-3 c =
     let s = now (c .before .before .before .before .before .before .args .s) in
     right s 1 (sym (begins-space s (omega (arith, c .before .before .before .before .if1 .left)) (c .if3 .taken)))
 
-wide-width-requires : tie.Need-wide-width-requires
-wide-width-requires c κs = search needs
-
-returns-4 : tie.Need-returns-4
-returns-4 c = search needs
-
 pub white-width-spec : {M : Type 1} → statement M
 white-width-spec =
     tie.close
-    (tie.spec
-    returns
-    shared-slice-read-first
-    is-past-space-requires
-    returns-2
-    returns-3
-    wide-width-requires
-    returns-4)
+    (tie.spec returns (λ c. search needs) (λ c κs. search needs) returns-2 returns-3 (λ c κs. search needs) (λ c. search needs))

@@ -17,21 +17,6 @@ use Rattle.chars.proofs.wide_end.Tie as tie
 of-last : (s : List ℕ) (n r : ℕ) → n ≤ length s → r ≡ whiteAt (take (length s - (length s - n)) (drop (length s - n) s)) → r ≡ whiteAt (drop (length s - n) s)
 of-last s n r h e = e ∙ ap whiteAt (take-rest (length s - n) s)
 
-sub-first : tie.Need-sub-first
-sub-first c = search needs
-
-sub-wide-width : tie.Need-sub-wide-width
-sub-wide-width c = search needs
-
-part-wide-width-start : tie.Need-part-wide-width-start
-part-wide-width-start c = search needs
-
-part-wide-width-end : tie.Need-part-wide-width-end
-part-wide-width-end c = search needs
-
-wide-width-requires : tie.Need-wide-width-requires
-wide-width-requires c κs = search needs
-
 returns : tie.Need-returns
 returns c =
     let s = now (c .before .before .before .before .args .s) in
@@ -45,18 +30,6 @@ returns-2 c =
     (λ l e. omega (arith, c .if2 .taken))
     (λ l e. omega (arith, c .if2 .taken))
 
-sub-wide-width-2 : tie.Need-sub-wide-width-2
-sub-wide-width-2 c = search needs
-
-part-wide-width-start-2 : tie.Need-part-wide-width-start-2
-part-wide-width-start-2 c = search needs
-
-part-wide-width-end-2 : tie.Need-part-wide-width-end-2
-part-wide-width-end-2 c = search needs
-
-wide-width-requires-2 : tie.Need-wide-width-requires-2
-wide-width-requires-2 c κs = search needs
-
 returns-3 : tie.Need-returns-3
 returns-3 c =
     let s = now (c .before .before .before .before .before .before .before .before .args .s) in
@@ -69,18 +42,6 @@ returns-4 c =
     (λ e. c .before .before .before .before .before .if1 .left (of-last s 1 _ (c .before .before .before .before .before .before .before .before .before .pre) (c .before .before .before .before .before .before .wide-width .ensures .0) ∙ e))
     (λ l e. c .before .if3 .left (of-last s 2 _ l (c .before .before .wide-width2 .ensures .0) ∙ e))
     (λ l e. omega (arith, c .if4 .taken))
-
-sub-wide-width-3 : tie.Need-sub-wide-width-3
-sub-wide-width-3 c = search needs
-
-part-wide-width-start-3 : tie.Need-part-wide-width-start-3
-part-wide-width-start-3 c = search needs
-
-part-wide-width-end-3 : tie.Need-part-wide-width-end-3
-part-wide-width-end-3 c = search needs
-
-wide-width-requires-3 : tie.Need-wide-width-requires-3
-wide-width-requires-3 c κs = search needs
 
 returns-5 : tie.Need-returns-5
 returns-5 c =
@@ -98,23 +59,6 @@ returns-6 c =
 pub wide-end-spec : {M : Type 1} → statement M
 wide-end-spec =
     tie.close
-    (tie.spec
-    sub-first
-    sub-wide-width
-    part-wide-width-start
-    part-wide-width-end
-    wide-width-requires
-    returns
-    returns-2
-    sub-wide-width-2
-    part-wide-width-start-2
-    part-wide-width-end-2
-    wide-width-requires-2
-    returns-3
-    returns-4
-    sub-wide-width-3
-    part-wide-width-start-3
-    part-wide-width-end-3
-    wide-width-requires-3
-    returns-5
-    returns-6)
+    (tie.spec (λ c. search needs) (λ c. search needs) (λ c. search needs) (λ c. search needs) (λ c κs. search needs) returns returns-2
+    (λ c. search needs) (λ c. search needs) (λ c. search needs) (λ c κs. search needs) returns-3 returns-4 (λ c. search needs)
+    (λ c. search needs) (λ c. search needs) (λ c κs. search needs) returns-5 returns-6)

@@ -18,24 +18,12 @@ found : (s : List ℕ) (c n r : ℕ) → charAt s ≡ Char c n → cond (white c
 unfolding whiteAt
 found s c n r e w = sym w ∙ sym (ap widthOf e)
 
-decode-char-requires : tie.Need-decode-char-requires
-decode-char-requires c κs = search needs
-
-enum-known-c : tie.Need-enum-known-c
-enum-known-c c = search needs
-
-is-white-requires : tie.Need-is-white-requires
-is-white-requires c κs = search needs
-
 returns : tie.Need-returns
 returns c =
     let s = now (c .before .before .before .before .before .before .before .args .s) in
     let g = c .before .before .before .c .given in
     right s _ (found s (g .0 .0) (g .0 .1 .0) _ (sym (c .before .before .before .before .before .decode-char .ensures) ∙ g .1)
     (rw (sym (c .before .is-white .ensures) ∙ c .if1 .taken) refl))
-
-enum-told : tie.Need-enum-told
-enum-told c = search needs
 
 returns-2 : tie.Need-returns-2
 returns-2 c =
@@ -53,11 +41,4 @@ returns-3 c =
 pub wide-width-spec : {M : Type 1} → statement M
 wide-width-spec =
     tie.close
-    (tie.spec
-    decode-char-requires
-    enum-known-c
-    is-white-requires
-    returns
-    enum-told
-    returns-2
-    returns-3)
+    (tie.spec (λ c κs. search needs) (λ c. search needs) (λ c κs. search needs) returns (λ c. search needs) returns-2 returns-3)

@@ -9,17 +9,8 @@ use Rattle.escapes.proofs.Escapes.{lone, short-at, byte-at, unicode-at,
 use Rattle.escapes.proofs.escape_at.Statement.{statement}
 use Rattle.escapes.proofs.escape_at.Tie as tie
 
-add-next : tie.Need-add-next
-add-next c = search needs
-
 returns : tie.Need-returns
 returns c = let a = c .before .before .args in sym (lone (a .s .now) (a .at + 1) (c .if1 .taken))
-
-short-at-requires : tie.Need-short-at-requires
-short-at-requires c κs = search needs
-
-cast-t7 : tie.Need-cast-t7
-cast-t7 c = search needs
 
 returns-2 : tie.Need-returns-2
 returns-2 c =
@@ -27,20 +18,8 @@ returns-2 c =
     let e = c .before .short-at .ensures in
     ap (λ (k : ℕ). Char k 1) e ∙ sym (short-at (a .s .now) (a .at + 1) (omega (arith, e, c .if2 .taken)))
 
-shared-slice-read-if3 : tie.Need-shared-slice-read-if3
-shared-slice-read-if3 c = search needs
-
-byte-escape-requires : tie.Need-byte-escape-requires
-byte-escape-requires c κs = search needs
-
 returns-3 : tie.Need-returns-3
 returns-3 c = let a = c .before .before .before .before .before .before .before .args in c .byte-escape .ensures ∙ sym (byte-at (a .s .now) (a .at + 1) (c .before .if3 .taken))
-
-shared-slice-read-if4 : tie.Need-shared-slice-read-if4
-shared-slice-read-if4 c = search needs
-
-unicode-escape-requires : tie.Need-unicode-escape-requires
-unicode-escape-requires c κs = search needs
 
 returns-4 : tie.Need-returns-4
 returns-4 c = let a = c .before .before .before .before .before .before .before .before .before .args in c .unicode-escape .ensures ∙ sym (unicode-at (a .s .now) (a .at + 1) (c .before .if4 .taken))
@@ -53,16 +32,5 @@ returns-5 c =
 pub escape-at-spec : {M : Type 1} → statement M
 escape-at-spec =
     tie.close
-    (tie.spec
-    add-next
-    returns
-    short-at-requires
-    cast-t7
-    returns-2
-    shared-slice-read-if3
-    byte-escape-requires
-    returns-3
-    shared-slice-read-if4
-    unicode-escape-requires
-    returns-4
-    returns-5)
+    (tie.spec (λ c. search needs) returns (λ c κs. search needs) (λ c. search needs) returns-2 (λ c. search needs) (λ c κs. search needs)
+    returns-3 (λ c. search needs) (λ c κs. search needs) returns-4 returns-5)

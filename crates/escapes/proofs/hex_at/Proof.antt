@@ -12,9 +12,6 @@ use Rattle.escapes.proofs.hex_at.Tie as tie
 returns : tie.Need-returns
 returns c = (zero-none (List·getD-eq-default (c .before .args .s .now) 0 (c .if1 .taken)), omega arith)
 
-shared-slice-read-b : tie.Need-shared-slice-read-b
-shared-slice-read-b c = search needs
-
 cast-b : tie.Need-cast-b
 cast-b c = omega (arith, c .shared-slice-known .given (c .before .before .args .i))
 
@@ -27,17 +24,11 @@ returns-3 c = (decimal _ (omega arith) (omega arith), omega arith)
 returns-4 : tie.Need-returns-4
 returns-4 c = (no-digit _ (inr (c .before .if3 .left)) (inl (c .if4 .taken)) (inl (omega arith)), omega arith)
 
-sub-result : tie.Need-sub-result
-sub-result c = search needs
-
 returns-5 : tie.Need-returns-5
 returns-5 c = (upper _ (omega arith) (omega arith), omega arith)
 
 returns-6 : tie.Need-returns-6
 returns-6 c = (no-digit _ (inr (omega arith)) (inr (c .before .if5 .left)) (inl (c .if6 .taken)), omega arith)
-
-sub-result-2 : tie.Need-sub-result-2
-sub-result-2 c = search needs
 
 returns-7 : tie.Need-returns-7
 returns-7 c = (lower _ (omega arith) (omega arith), omega arith)
@@ -48,16 +39,5 @@ returns-8 c = (no-digit _ (inr (omega arith)) (inr (omega arith)) (inr (c .if7 .
 pub hex-at-spec : {M : Type 1} → statement M
 hex-at-spec =
     tie.close
-    (tie.spec
-    returns
-    shared-slice-read-b
-    cast-b
-    returns-2
-    returns-3
-    returns-4
-    sub-result
-    returns-5
-    returns-6
-    sub-result-2
-    returns-7
-    returns-8)
+    (tie.spec returns (λ c. search needs) cast-b returns-2 returns-3 returns-4 (λ c. search needs) returns-5 returns-6 (λ c. search needs)
+    returns-7 returns-8)

@@ -25,27 +25,12 @@ abbrev μ-loop : tie.MeasureT-loop
 loop-holds : tie.Need-loop-holds Inv-loop μ-loop
 loop-holds c = (omega arith, omega arith, omega arith, refl)
 
-shared-slice-read-b : tie.Need-shared-slice-read-b Inv-loop μ-loop
-shared-slice-read-b c = omega arith
-
-add-i : tie.Need-add-i Inv-loop μ-loop
-add-i c = omega arith
-
-loop-less : tie.Need-loop-less Inv-loop μ-loop
-loop-less c = omega arith
-
 loop-again : tie.Need-loop-again Inv-loop μ-loop
 loop-again c =
     let l = c .before .before .before .loop in
     let a = c .before .before .before .before .before .args in
     let n : l .i + 1 - a .from ≡ l .i - a .from + 1 = omega arith in
     (omega arith, omega arith, l .inv .2, rw n (sym (next-at (a .s .now) (l .i) (l .i - a .from) (numbered (l .seen) (l .value)) (numbered (l .seen) (l .value)) (omega arith) (λ e. omega (arith, c .if1 .taken)) (underscore _ (l .seen) (l .value) (c .if1 .taken))) ∙ l .inv .3))
-
-add-char-or : tie.Need-add-char-or Inv-loop μ-loop
-add-char-or c = omega arith
-
-sub-char-or : tie.Need-sub-char-or Inv-loop μ-loop
-sub-char-or c = omega arith
 
 char-or-requires : tie.Need-char-or-requires Inv-loop μ-loop
 char-or-requires c κs = c .before .before .before .before .before .loop .inv .2
@@ -57,21 +42,12 @@ returns c =
     let n : l .i + 1 - a .from ≡ l .i - a .from + 1 = omega arith in
     c .char-or .ensures ∙ ap (λ k. charOr (ifScalar (some (l .value))) k) n ∙ sym (close-at (a .s .now) (l .i) (l .i - a .from) (numbered (l .seen) (l .value)) (omega arith) (c .before .before .if2 .taken) ∙ close-seen _ _ _ (c .before .if3 .taken)) ∙ l .inv .3
 
-add-t17 : tie.Need-add-t17 Inv-loop μ-loop
-add-t17 c = omega arith
-
-sub-t18 : tie.Need-sub-t18 Inv-loop μ-loop
-sub-t18 c = omega arith
-
 returns-2 : tie.Need-returns-2 Inv-loop μ-loop
 returns-2 c =
     let l = c .before .before .before .before .before .loop in
     let a = c .before .before .before .before .before .before .before .args in
     let n : l .i + 1 - a .from ≡ l .i - a .from + 1 = omega arith in
     ap Verbatim n ∙ sym (close-at (a .s .now) (l .i) (l .i - a .from) (numbered (l .seen) (l .value)) (omega arith) (c .before .if2 .taken) ∙ close-unseen _ _ _ (c .if3 .left)) ∙ l .inv .3
-
-hex-at-requires : tie.Need-hex-at-requires Inv-loop μ-loop
-hex-at-requires c κs = search needs
 
 stand-requires : tie.Need-stand-requires Inv-loop μ-loop
 stand-requires c κs = (c .before .before .before .before .before .before .loop .inv .0, c .before .before .before .before .before .before .loop .inv .1)
@@ -82,12 +58,6 @@ returns-3 c =
     let a = c .before .before .before .before .before .before .before .before .before .args in
     let e : hexDigit (getD (a .s .now) (l .i) 0) ≡ none = c .before .before .hex-at .ensures .0 ∙ rw (le-ltb _ 16 (c .before .if4 .taken)) refl in
     c .stand .ensures ∙ sym (no-name-at (a .s .now) (l .i) (l .i - a .from) (numbered (l .seen) (l .value)) (omega arith) (c .before .before .before .if2 .left) (no-digit _ (l .seen) (l .value) (c .before .before .before .before .if1 .left) e)) ∙ l .inv .3
-
-mul-next : tie.Need-mul-next Inv-loop μ-loop
-mul-next c = omega arith
-
-add-next : tie.Need-add-next Inv-loop μ-loop
-add-next c = omega arith
 
 stand-requires-2 : tie.Need-stand-requires-2 Inv-loop μ-loop
 stand-requires-2 c κs = (c .before .before .before .before .before .before .before .loop .inv .0, c .before .before .before .before .before .before .before .loop .inv .1)
@@ -100,12 +70,6 @@ returns-4 c =
     let e : hexDigit (getD (a .s .now) (l .i) 0) ≡ some (h .result) = h .ensures .0 ∙ rw (lt-ltb _ 16 (c .before .before .if4 .left)) refl in
     c .stand2 .ensures ∙ sym (no-name-at (a .s .now) (l .i) (l .i - a .from) (numbered (l .seen) (l .value)) (omega arith) (c .before .before .before .before .if2 .left) (λ r. digit _ (l .seen) (l .value) (h .result) e r ∙ large _ (c .before .if5 .taken) r)) ∙ l .inv .3
 
-add-i-2 : tie.Need-add-i-2 Inv-loop μ-loop
-add-i-2 c = omega arith
-
-loop-less-2 : tie.Need-loop-less-2 Inv-loop μ-loop
-loop-less-2 c = omega arith
-
 loop-again-2 : tie.Need-loop-again-2 Inv-loop μ-loop
 loop-again-2 c =
     let l = c .before .before .before .before .before .before .before .loop in
@@ -114,9 +78,6 @@ loop-again-2 c =
     let e : hexDigit (getD (a .s .now) (l .i) 0) ≡ some (h .result) = h .ensures .0 ∙ rw (lt-ltb _ 16 (c .before .if4 .left)) refl in
     let n : l .i + 1 - a .from ≡ l .i - a .from + 1 = omega arith in
     (omega arith, omega arith, c .if5 .left, rw n (sym (next-at (a .s .now) (l .i) (l .i - a .from) (numbered (l .seen) (l .value)) (numbered true (l .value * 16 + h .result)) (omega arith) (c .before .before .before .if2 .left) (digit _ (l .seen) (l .value) (h .result) e)) ∙ l .inv .3))
-
-sub-t20 : tie.Need-sub-t20 Inv-loop μ-loop
-sub-t20 c = omega arith
 
 returns-5 : tie.Need-returns-5 Inv-loop μ-loop
 returns-5 c =
@@ -127,30 +88,7 @@ returns-5 c =
 pub number-spec : {M : Type 1} → statement M
 number-spec =
     tie.close
-    (tie.spec
-    Inv-loop
-    μ-loop
-    loop-holds
-    shared-slice-read-b
-    add-i
-    loop-less
-    loop-again
-    add-char-or
-    sub-char-or
-    char-or-requires
-    returns
-    add-t17
-    sub-t18
-    returns-2
-    hex-at-requires
-    stand-requires
-    returns-3
-    mul-next
-    add-next
-    stand-requires-2
-    returns-4
-    add-i-2
-    loop-less-2
-    loop-again-2
-    sub-t20
-    returns-5)
+    (tie.spec Inv-loop μ-loop loop-holds (λ c. omega arith) (λ c. omega arith) (λ c. omega arith) loop-again (λ c. omega arith)
+    (λ c. omega arith) char-or-requires returns (λ c. omega arith) (λ c. omega arith) returns-2 (λ c κs. search needs) stand-requires
+    returns-3 (λ c. omega arith) (λ c. omega arith) stand-requires-2 returns-4 (λ c. omega arith) (λ c. omega arith) loop-again-2
+    (λ c. omega arith) returns-5)

@@ -19,15 +19,6 @@ abbrev μ-loop : tie.MeasureT-loop
 loop-holds : tie.Need-loop-holds Inv-loop μ-loop
 loop-holds c = (omega arith, omega arith, refl)
 
-shared-slice-read-if1 : tie.Need-shared-slice-read-if1 Inv-loop μ-loop
-shared-slice-read-if1 c = omega arith
-
-add-t9 : tie.Need-add-t9 Inv-loop μ-loop
-add-t9 c = omega arith
-
-sub-t10 : tie.Need-sub-t10 Inv-loop μ-loop
-sub-t10 c = omega arith
-
 returns : tie.Need-returns Inv-loop μ-loop
 returns c =
     let l = c .before .before .before .loop in
@@ -35,21 +26,12 @@ returns c =
     let n : l .i + 1 - a .from ≡ l .i - a .from + 1 = omega arith in
     ap Verbatim n ∙ sym (close-at (a .s .now) (l .i) (l .i - a .from) unnamed (omega arith) (c .if1 .taken)) ∙ l .inv .2
 
-add-i : tie.Need-add-i Inv-loop μ-loop
-add-i c = omega arith
-
-loop-less : tie.Need-loop-less Inv-loop μ-loop
-loop-less c = omega arith
-
 loop-again : tie.Need-loop-again Inv-loop μ-loop
 loop-again c =
     let l = c .before .before .before .loop in
     let a = c .before .before .before .before .args in
     let n : l .i + 1 - a .from ≡ l .i - a .from + 1 = omega arith in
     (omega arith, omega arith, rw n (sym (next-at (a .s .now) (l .i) (l .i - a .from) unnamed unnamed (omega arith) (c .if1 .left) (λ h. refl)) ∙ l .inv .2))
-
-sub-t11 : tie.Need-sub-t11 Inv-loop μ-loop
-sub-t11 c = omega arith
 
 returns-2 : tie.Need-returns-2 Inv-loop μ-loop
 returns-2 c =
@@ -60,16 +42,5 @@ returns-2 c =
 pub stand-spec : {M : Type 1} → statement M
 stand-spec =
     tie.close
-    (tie.spec
-    Inv-loop
-    μ-loop
-    loop-holds
-    shared-slice-read-if1
-    add-t9
-    sub-t10
-    returns
-    add-i
-    loop-less
-    loop-again
-    sub-t11
-    returns-2)
+    (tie.spec Inv-loop μ-loop loop-holds (λ c. omega arith) (λ c. omega arith) (λ c. omega arith) returns (λ c. omega arith)
+    (λ c. omega arith) loop-again (λ c. omega arith) returns-2)

@@ -22,18 +22,8 @@ abbrev μ-loop : tie.MeasureT-loop
 loop-holds : tie.Need-loop-holds Inv-loop μ-loop
 loop-holds c = (omega arith, omega arith)
 
-shared-slice-read-if1 : tie.Need-shared-slice-read-if1 Inv-loop μ-loop
-shared-slice-read-if1 c = omega arith
-
-plain-run-requires : tie.Need-plain-run-requires Inv-loop μ-loop
-plain-run-requires c κs = omega arith
-
 sub-count : tie.Need-sub-count Inv-loop μ-loop
-sub-count c =
-    let l = c .before .before .before .before .loop in
-    let a = c .before .before .before .before .before .before .args in
-    let r = c .plain-run in
-    omega (arith, r .ensures)
+sub-count c = omega (arith, c .plain-run .ensures)
 
 add-count : tie.Need-add-count Inv-loop μ-loop
 add-count c =
@@ -56,12 +46,6 @@ loop-again c =
     let r = c .plain-run in
     (run-ends (a .s .now) (l .i) (r .result) (r .ensures) (l .inv .0), omega (arith, run-size (a .s .now) (l .i) (r .result) (r .ensures) (l .inv .0), l .inv .1))
 
-add-short-at : tie.Need-add-short-at Inv-loop μ-loop
-add-short-at c = omega arith
-
-short-at-requires : tie.Need-short-at-requires Inv-loop μ-loop
-short-at-requires c κs = search needs
-
 -- in the arm of a short escape
 short-sized : (c : tie.Then2 Inv-loop μ-loop)
     → (c .before .before .before .before .before .loop .i + 2 ≤ length (c .before .before .before .before .before .before .before .args .s .now))
@@ -77,11 +61,8 @@ short-sized c =
 add-count-2 : tie.Need-add-count-2 Inv-loop μ-loop
 add-count-2 c = let z = short-sized c in let l = c .before .before .before .before .before .loop in omega (arith, z .1, l .inv .1, unescape-length (c .before .before .before .before .before .before .before .args .s .now), c .before .before .before .before .before .before .before .good)
 
-add-i : tie.Need-add-i Inv-loop μ-loop
-add-i c = let z = short-sized c in let l = c .before .before .before .before .before .loop in omega (arith, z .0)
-
 loop-less-2 : tie.Need-loop-less-2 Inv-loop μ-loop
-loop-less-2 c = let z = short-sized c in let l = c .before .before .before .before .before .loop in omega (arith, z .0, c .before .before .before .before .loop-test .taken)
+loop-less-2 c = let z = short-sized c in omega (arith, z .0, c .before .before .before .before .loop-test .taken)
 
 loop-again-2 : tie.Need-loop-again-2 Inv-loop μ-loop
 loop-again-2 c = let z = short-sized c in let l = c .before .before .before .before .before .loop in (z .0, omega (arith, z .1, l .inv .1))
@@ -112,23 +93,11 @@ sized k =
     let b = k .before .before .before .before .before .before .if1 .left in
     (char-ends (text k) (place k) h b (code k) (count k) (found k), char-size (text k) (place k) h b (code k) (count k) (found k))
 
-enum-known-c : tie.Need-enum-known-c Inv-loop μ-loop
-enum-known-c c = search needs
-
-char-length-requires : tie.Need-char-length-requires Inv-loop μ-loop
-char-length-requires c κs = search needs
-
 add-count-3 : tie.Need-add-count-3 Inv-loop μ-loop
 add-count-3 c = let k = c .before in let z = sized k in let l = k .before .before .before .before .before .before .before .before .before .loop in omega (arith, z .1, l .inv .1, c .char-length .ensures .0, unescape-length (text k), k .before .before .before .before .before .before .before .before .before .before .before .good)
 
-add-i-2 : tie.Need-add-i-2 Inv-loop μ-loop
-add-i-2 c = let k = c .before in let z = sized k in let l = k .before .before .before .before .before .before .before .before .before .loop in omega (arith, z .0)
-
-add-i-3 : tie.Need-add-i-3 Inv-loop μ-loop
-add-i-3 c = let k = c .before in let z = sized k in let l = k .before .before .before .before .before .before .before .before .before .loop in omega (arith, z .0)
-
 loop-less-3 : tie.Need-loop-less-3 Inv-loop μ-loop
-loop-less-3 c = let k = c .before in let z = sized k in let l = k .before .before .before .before .before .before .before .before .before .loop in omega (arith, z .0, k .before .before .before .before .before .before .before .before .loop-test .taken)
+loop-less-3 c = let k = c .before in let z = sized k in omega (arith, z .0, k .before .before .before .before .before .before .before .before .loop-test .taken)
 
 loop-again-3 : tie.Need-loop-again-3 Inv-loop μ-loop
 loop-again-3 c = let k = c .before in let z = sized k in let l = k .before .before .before .before .before .before .before .before .before .loop in (z .0, omega (arith, z .1, l .inv .1, c .char-length .ensures .0))
@@ -152,23 +121,14 @@ sized2 k =
     let b = k .before .before .before .before .before .before .if1 .left in
     (verbatim-ends (text2 k) (place2 k) h b (count2 k) (found2 k), verbatim-size (text2 k) (place2 k) h b (count2 k) (found2 k))
 
-enum-known-n : tie.Need-enum-known-n Inv-loop μ-loop
-enum-known-n c = search needs
-
 add-count-4 : tie.Need-add-count-4 Inv-loop μ-loop
 add-count-4 c = let z = sized2 c in let l = c .before .before .before .before .before .before .before .before .before .loop in omega (arith, z .1, l .inv .1, unescape-length (text2 c), c .before .before .before .before .before .before .before .before .before .before .before .good)
 
 add-count-5 : tie.Need-add-count-5 Inv-loop μ-loop
 add-count-5 c = let z = sized2 c in let l = c .before .before .before .before .before .before .before .before .before .loop in omega (arith, z .1, l .inv .1, unescape-length (text2 c), c .before .before .before .before .before .before .before .before .before .before .before .good)
 
-add-i-4 : tie.Need-add-i-4 Inv-loop μ-loop
-add-i-4 c = let z = sized2 c in let l = c .before .before .before .before .before .before .before .before .before .loop in omega (arith, z .0)
-
-add-i-5 : tie.Need-add-i-5 Inv-loop μ-loop
-add-i-5 c = let z = sized2 c in let l = c .before .before .before .before .before .before .before .before .before .loop in omega (arith, z .0)
-
 loop-less-4 : tie.Need-loop-less-4 Inv-loop μ-loop
-loop-less-4 c = let z = sized2 c in let l = c .before .before .before .before .before .before .before .before .before .loop in omega (arith, z .0, c .before .before .before .before .before .before .before .before .loop-test .taken)
+loop-less-4 c = let z = sized2 c in omega (arith, z .0, c .before .before .before .before .before .before .before .before .loop-test .taken)
 
 loop-again-4 : tie.Need-loop-again-4 Inv-loop μ-loop
 loop-again-4 c = let z = sized2 c in let l = c .before .before .before .before .before .before .before .before .before .loop in (z .0, omega (arith, z .1, l .inv .1))
@@ -182,35 +142,8 @@ returns c =
 pub unescaped-length-spec : {M : Type 1} → statement M
 unescaped-length-spec =
     tie.close
-    (tie.spec
-    Inv-loop
-    μ-loop
-    loop-holds
-    shared-slice-read-if1
-    plain-run-requires
-    sub-count
-    add-count
-    loop-less
-    loop-again
-    add-short-at
-    short-at-requires
-    add-count-2
-    add-i
-    loop-less-2
-    loop-again-2
-    escape-at-requires
-    enum-known-c
-    char-length-requires
-    add-count-3
-    add-i-2
-    add-i-3
-    loop-less-3
-    loop-again-3
-    enum-known-n
-    add-count-4
-    add-count-5
-    add-i-4
-    add-i-5
-    loop-less-4
-    loop-again-4
-    returns)
+    (tie.spec Inv-loop μ-loop loop-holds (λ c. omega arith) (λ c κs. omega arith) sub-count add-count loop-less loop-again
+    (λ c. omega arith) (λ c κs. search needs) add-count-2 (λ c. omega (arith, short-sized c .0)) loop-less-2 loop-again-2 escape-at-requires
+    (λ c. search needs) (λ c κs. search needs) add-count-3 (λ c. omega (arith, sized (c .before) .0))
+    (λ c. omega (arith, sized (c .before) .0)) loop-less-3 loop-again-3 (λ c. search needs) add-count-4 add-count-5
+    (λ c. omega (arith, sized2 c .0)) (λ c. omega (arith, sized2 c .0)) loop-less-4 loop-again-4 returns)

@@ -13,35 +13,20 @@ use Rattle.escapes.proofs.Escapes.{no-brace, brace}
 use Rattle.escapes.proofs.unicode_escape.Statement.{statement}
 use Rattle.escapes.proofs.unicode_escape.Tie as tie
 
-add-open : tie.Need-add-open
-add-open c = search needs
-
 returns : tie.Need-returns
 returns c =
     let a = c .before .before .args in
     sym (no-brace (a .s .now) (a .from) (λ e. omega (arith, List·getD-eq-default (a .s .now) 0 (c .if1 .taken))))
-
-shared-slice-read-if2 : tie.Need-shared-slice-read-if2
-shared-slice-read-if2 c = search needs
 
 returns-2 : tie.Need-returns-2
 returns-2 c =
     let a = c .before .before .before .before .args in
     sym (no-brace (a .s .now) (a .from) (c .if2 .taken))
 
-add-first : tie.Need-add-first
-add-first c = search needs
-
 returns-3 : tie.Need-returns-3
 returns-3 c =
     let a = c .before .before .before .before .before .args in
     sym (brace (a .s .now) (a .from) (c .before .if2 .left) ∙ end-at (a .s .now) (a .from + 2) 2 named (c .if3 .taken))
-
-shared-slice-read-if4 : tie.Need-shared-slice-read-if4
-shared-slice-read-if4 c = search needs
-
-stand-requires : tie.Need-stand-requires
-stand-requires c κs = search needs
 
 returns-4 : tie.Need-returns-4
 returns-4 c =
@@ -53,15 +38,6 @@ returns-4 c =
     ∙ sym (no-name-at (a .s .now) (a .from + 2) 2 named (omega arith) no (first-underscore _ (c .before .if4 .taken)))
     ∙ sym (brace (a .s .now) (a .from) (c .before .before .before .before .if2 .left))
 
-shared-slice-read-if5 : tie.Need-shared-slice-read-if5
-shared-slice-read-if5 c = search needs
-
-add-number : tie.Need-add-number
-add-number c = search needs
-
-number-requires : tie.Need-number-requires
-number-requires c κs = search needs
-
 returns-5 : tie.Need-returns-5
 returns-5 c =
     let a = c .before .before .before .before .before .before .before .before .before .before .args in
@@ -71,9 +47,6 @@ returns-5 c =
     ∙ ap (λ (k : ℕ). braces (numbered false 0) k (drop (a .from + 2 + 1) (a .s .now))) n
     ∙ sym (next-at (a .s .now) (a .from + 2) 2 named (numbered false 0) (omega arith) no (first-plus _ (c .before .if5 .taken)))
     ∙ sym (brace (a .s .now) (a .from) (c .before .before .before .before .before .before .if2 .left))
-
-number-requires-2 : tie.Need-number-requires-2
-number-requires-2 c κs = search needs
 
 returns-6 : tie.Need-returns-6
 returns-6 c =
@@ -87,19 +60,6 @@ returns-6 c =
 pub unicode-escape-spec : {M : Type 1} → statement M
 unicode-escape-spec =
     tie.close
-    (tie.spec
-    add-open
-    returns
-    shared-slice-read-if2
-    returns-2
-    add-first
-    returns-3
-    shared-slice-read-if4
-    stand-requires
-    returns-4
-    shared-slice-read-if5
-    add-number
-    number-requires
-    returns-5
-    number-requires-2
+    (tie.spec (λ c. search needs) returns (λ c. search needs) returns-2 (λ c. search needs) returns-3 (λ c. search needs)
+    (λ c κs. search needs) returns-4 (λ c. search needs) (λ c. search needs) (λ c κs. search needs) returns-5 (λ c κs. search needs)
     returns-6)

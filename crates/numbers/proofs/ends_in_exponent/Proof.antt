@@ -9,26 +9,11 @@ use Rattle.numbers.proofs.ends_in_exponent.Tie as tie
 returns : tie.Need-returns
 returns c = let a = c .before .before .args in sym (tail-end (a .s .now) (a .from) (c .if1 .taken))
 
-shared-slice-read-is-exponent-letter : tie.Need-shared-slice-read-is-exponent-letter
-shared-slice-read-is-exponent-letter c = search needs
-
-is-exponent-letter-requires : tie.Need-is-exponent-letter-requires
-is-exponent-letter-requires c κs = search needs
-
 returns-2 : tie.Need-returns-2
 returns-2 c =
     let b = c .before .before .before in
     let a = b .before .before .args in
     sym (tail-other (a .s .now) (a .from) (b .if1 .left) (sym (c .before .is-exponent-letter .ensures) ∙ not-true _ (c .if2 .taken)))
-
-add-sign-end : tie.Need-add-sign-end
-add-sign-end c = search needs
-
-sign-end-requires : tie.Need-sign-end-requires
-sign-end-requires c κs = search needs
-
-digits-end-requires : tie.Need-digits-end-requires
-digits-end-requires c κs = search needs
 
 returns-3 : tie.Need-returns-3
 returns-3 c =
@@ -47,13 +32,5 @@ returns-4 c =
 pub ends-in-exponent-spec : {M : Type 1} → statement M
 ends-in-exponent-spec =
     tie.close
-    (tie.spec
-    returns
-    shared-slice-read-is-exponent-letter
-    is-exponent-letter-requires
-    returns-2
-    add-sign-end
-    sign-end-requires
-    digits-end-requires
-    returns-3
-    returns-4)
+    (tie.spec returns (λ c. search needs) (λ c κs. search needs) returns-2 (λ c. search needs) (λ c κs. search needs) (λ c κs. search needs)
+    returns-3 returns-4)

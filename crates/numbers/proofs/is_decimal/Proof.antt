@@ -6,12 +6,6 @@ use Rattle.numbers.proofs.DecimalLaws.{decimal-too-short, decimal-witho
 use Rattle.numbers.proofs.is_decimal.Statement.{statement}
 use Rattle.numbers.proofs.is_decimal.Tie as tie
 
-sign-end-requires : tie.Need-sign-end-requires
-sign-end-requires c κs = search needs
-
-digits-end-requires : tie.Need-digits-end-requires
-digits-end-requires c κs = search needs
-
 returns : tie.Need-returns
 returns c =
     let d = c .before in
@@ -19,24 +13,12 @@ returns c =
     let s = g .before .before .args .s .now in
     sym (decimal-too-short s (g .sign-end .result) (d .digits-end .result) (g .sign-end .ensures ∙ zero-add _) (d .digits-end .ensures) (c .if1 .taken))
 
-shared-slice-read-if2 : tie.Need-shared-slice-read-if2
-shared-slice-read-if2 c = search needs
-
 returns-2 : tie.Need-returns-2
 returns-2 c =
     let d = c .before .before .before in
     let g = d .before in
     let s = g .before .before .args .s .now in
     sym (decimal-without-dot s (g .sign-end .result) (d .digits-end .result) (g .sign-end .ensures ∙ zero-add _) (d .digits-end .ensures) (c .if2 .taken))
-
-add-fraction : tie.Need-add-fraction
-add-fraction c = search needs
-
-digits-end-requires-2 : tie.Need-digits-end-requires-2
-digits-end-requires-2 c κs = search needs
-
-add-if3 : tie.Need-add-if3
-add-if3 c = search needs
 
 returns-3 : tie.Need-returns-3
 returns-3 c =
@@ -46,9 +28,6 @@ returns-3 c =
     let g = d .before in
     let s = g .before .before .args .s .now in
     sym (decimal-dot-alone s (g .sign-end .result) (d .digits-end .result) (g .sign-end .ensures ∙ zero-add _) (d .digits-end .ensures) (f .digits-end2 .result) (i .if1 .left) (f .before .if2 .left) (f .digits-end2 .ensures) (c .if3 .taken))
-
-ends-in-exponent-requires : tie.Need-ends-in-exponent-requires
-ends-in-exponent-requires c κs = search needs
 
 returns-4 : tie.Need-returns-4
 returns-4 c =
@@ -63,15 +42,5 @@ returns-4 c =
 pub is-decimal-spec : {M : Type 1} → statement M
 is-decimal-spec =
     tie.close
-    (tie.spec
-    sign-end-requires
-    digits-end-requires
-    returns
-    shared-slice-read-if2
-    returns-2
-    add-fraction
-    digits-end-requires-2
-    add-if3
-    returns-3
-    ends-in-exponent-requires
-    returns-4)
+    (tie.spec (λ c κs. search needs) (λ c κs. search needs) returns (λ c. search needs) returns-2 (λ c. search needs) (λ c κs. search needs)
+    (λ c. search needs) returns-3 (λ c κs. search needs) returns-4)

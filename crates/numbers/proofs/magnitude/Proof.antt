@@ -25,12 +25,6 @@ returns c = let a = c .before .before .args in up-to-none (a .limit) (a .s .now)
 loop-holds : tie.Need-loop-holds Inv-loop μ-loop
 loop-holds c = let a = c .before .before .args in (omega arith, up-to-start (a .limit) (a .s .now) (a .from) (c .if1 .left))
 
-shared-slice-read-b : tie.Need-shared-slice-read-b Inv-loop μ-loop
-shared-slice-read-b c = omega arith
-
-is-digit-requires : tie.Need-is-digit-requires Inv-loop μ-loop
-is-digit-requires c κs = tt
-
 returns-2 : tie.Need-returns-2 Inv-loop μ-loop
 returns-2 c =
     let l = c .before .before .before .before .loop in
@@ -42,9 +36,6 @@ returns-3 c =
     let l = c .before .before .before .before .before .loop in
     let a = c .before .before .before .before .before .before .before .before in
     sym (l .inv .1 ∙ up-to-past (a .args .limit) (a .args .s .now) (l .i) (l .n) (omega (arith, a .pre)) (c .before .before .before .before .loop-test .taken))
-
-mul-n : tie.Need-mul-n Inv-loop μ-loop
-mul-n c = omega arith
 
 -- the byte that is read is a digit behind the tests
 abbrev byte : tie.Else3 Inv-loop μ-loop → ℕ
@@ -61,12 +52,6 @@ cast-n c = omega (arith, digit-most (byte c) (digit c))
 
 add-n : tie.Need-add-n Inv-loop μ-loop
 add-n c = omega (arith, digit-most (byte c) (digit c))
-
-add-i : tie.Need-add-i Inv-loop μ-loop
-add-i c = omega arith
-
-loop-less : tie.Need-loop-less Inv-loop μ-loop
-loop-less c = omega arith
 
 loop-again : tie.Need-loop-again Inv-loop μ-loop
 loop-again c =
@@ -89,21 +74,5 @@ returns-5 c =
 pub magnitude-spec : {M : Type 1} → statement M
 magnitude-spec =
     tie.close
-    (tie.spec
-    Inv-loop
-    μ-loop
-    returns
-    loop-holds
-    shared-slice-read-b
-    is-digit-requires
-    returns-2
-    returns-3
-    mul-n
-    sub-n
-    cast-n
-    add-n
-    add-i
-    loop-less
-    loop-again
-    returns-4
-    returns-5)
+    (tie.spec Inv-loop μ-loop returns loop-holds (λ c. omega arith) (λ c κs. tt) returns-2 returns-3 (λ c. omega arith) sub-n cast-n add-n
+    (λ c. omega arith) (λ c. omega arith) loop-again returns-4 returns-5)

@@ -13,26 +13,11 @@ use Rattle.numbers.proofs.parse_i64.Tie as tie
 returns : tie.Need-returns
 returns c = i64-empty (c .before .before .args .s .now) (c .if1 .taken)
 
-shared-slice-read-if2 : tie.Need-shared-slice-read-if2
-shared-slice-read-if2 c = search needs
-
-magnitude-requires : tie.Need-magnitude-requires
-magnitude-requires c κs = search needs
-
-enum-known-n : tie.Need-enum-known-n
-enum-known-n c = search needs
-
-enum-told : tie.Need-enum-told
-enum-told c = search needs
-
 returns-2 : tie.Need-returns-2
 returns-2 c =
     let b = c .before .before .before in
     let s = b .before .before .before .before .args .s .now in
     i64-minus-none s (omega arith) (b .if2 .taken) (sym (c .before .before .magnitude .ensures) ∙ c .enum-told .given .1)
-
-wrapping-sub-u64-requires : tie.Need-wrapping-sub-u64-requires
-wrapping-sub-u64-requires c κs = search needs
 
 returns-3 : tie.Need-returns-3
 returns-3 c =
@@ -41,12 +26,6 @@ returns-3 c =
     let b = m .before in
     let s = b .before .before .before .before .args .s .now in
     i64-minus-is s (c .before .before .n .given .0 .0) (w .result) (omega arith) (b .if2 .taken) (sym (m .magnitude .ensures) ∙ c .before .before .n .given .1) (omega arith) (w .ensures)
-
-sign-end-requires : tie.Need-sign-end-requires
-sign-end-requires c κs = search needs
-
-magnitude-requires-2 : tie.Need-magnitude-requires-2
-magnitude-requires-2 c κs = search needs
 
 returns-4 : tie.Need-returns-4
 returns-4 c =
@@ -58,15 +37,5 @@ returns-4 c =
 pub parse-i64-spec : {M : Type 1} → statement M
 parse-i64-spec =
     tie.close
-    (tie.spec
-    returns
-    shared-slice-read-if2
-    magnitude-requires
-    enum-known-n
-    enum-told
-    returns-2
-    wrapping-sub-u64-requires
-    returns-3
-    sign-end-requires
-    magnitude-requires-2
-    returns-4)
+    (tie.spec returns (λ c. search needs) (λ c κs. search needs) (λ c. search needs) (λ c. search needs) returns-2 (λ c κs. search needs)
+    returns-3 (λ c κs. search needs) (λ c κs. search needs) returns-4)

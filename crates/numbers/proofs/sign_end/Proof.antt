@@ -8,19 +8,10 @@ use Rattle.numbers.proofs.sign_end.Tie as tie
 returns : tie.Need-returns
 returns c = omega (arith, sign-end (c .before .args .s .now) (c .before .args .from) (c .if1 .taken))
 
-shared-slice-read-b : tie.Need-shared-slice-read-b
-shared-slice-read-b c = search needs
-
-add-result : tie.Need-add-result
-add-result c = search needs
-
 returns-2 : tie.Need-returns-2
 returns-2 c =
     let a = c .before .before .before .args in
     omega (arith, sign-on (a .s .now) (a .from) (c .before .before .if1 .left) (is-plus _ (c .if2 .taken)))
-
-add-result-2 : tie.Need-add-result-2
-add-result-2 c = search needs
 
 returns-3 : tie.Need-returns-3
 returns-3 c =
@@ -35,4 +26,4 @@ returns-4 c =
 pub sign-end-spec : {M : Type 1} → statement M
 sign-end-spec =
     tie.close
-    (tie.spec returns shared-slice-read-b add-result returns-2 add-result-2 returns-3 returns-4)
+    (tie.spec returns (λ c. search needs) (λ c. search needs) returns-2 (λ c. search needs) returns-3 returns-4)

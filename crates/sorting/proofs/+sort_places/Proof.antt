@@ -4,7 +4,6 @@ use Prim.Native.Nat.{ℕ, _+_, _-_, _/_, _<_}
 use native.Mathlib.Omega.{arith}
 use borrow.Author.Needs.{needs}
 use lib.ListN.{take, drop, length-take}
-use Rattle.sorting.specs.Places.{placeKey}
 use Rattle.sorting.proofs.PartLaws.{sorted-short, saved, merged-halves, halves-in-order}
 use borrow.Fn.Kinds.{In}
 use borrow.Fn.PlainCycle.{Measures, is, falls, and}
@@ -16,6 +15,7 @@ use Rattle.sorting.proofs.place_precedes.Reads as place-precedes-reads
 use Rattle.sorting.proofs.save.Reads as save-reads
 use Rattle.sorting.proofs.+sort_places.{statement}
 use Rattle.sorting.proofs.+sort_places.Tie.{close}
+use Rattle.pack.specs.Walk.{placeKey}
 
 abbrev μ-sort-places : Measures 4 sort-places-kinds.ps ℕ
 μ-sort-places κs a = a .1 .1 .1 .1 .1 .0

@@ -1,9 +1,9 @@
 -- `sorting::place_precedes` meets its contract: the numbers at both places are compared.
 -- Assumes nothing.
-use Rattle.sorting.specs.Places.{placeKey}
 use borrow.Author.Needs.{needs}
 use Rattle.sorting.proofs.place_precedes.Statement.{statement}
 use Rattle.sorting.proofs.place_precedes.Tie as tie
+use Rattle.pack.specs.Walk.{placeKey}
 
 number-at-requires : tie.Need-number-at-requires
 number-at-requires c κs = search needs

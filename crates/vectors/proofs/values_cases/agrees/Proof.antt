@@ -2,7 +2,7 @@
 -- Assumes nothing.
 use mathlib.Core.Path.{_≡_, ap}
 use native.Mathlib.Omega.{arith}
-use Rattle.format.specs.declared.Front.{Front}
+use Rattle.format.specs.declared.Reach.{Reach}
 use borrow.Author.Needs.{needs}
 use Rattle.vectors.proofs.values_cases.agrees.Statement.{statement}
 use Rattle.vectors.proofs.values_cases.agrees.Tie as tie
@@ -22,13 +22,13 @@ slice-aggregate-parse-value-3 c = search needs
 slice-aggregate-parse-value-4 : tie.Need-slice-aggregate-parse-value-4
 slice-aggregate-parse-value-4 c = search needs
 
-empty-front-requires : tie.Need-empty-front-requires
-empty-front-requires c κs = search needs
+empty-reach-requires : tie.Need-empty-reach-requires
+empty-reach-requires c κs = search needs
 
 parse-value-requires : tie.Need-parse-value-requires
 parse-value-requires c κs =
-    let z : c .empty-front .result .nodes ≡ 0 = ap (λ (f : Front). f .nodes) (c .empty-front .ensures) in
-    let y : c .empty-front .result .texts ≡ 0 = ap (λ (f : Front). f .texts) (c .empty-front .ensures) in
+    let z : c .empty-reach .result .nodes ≡ 0 = ap (λ (f : Reach). f .nodes) (c .empty-reach .ensures) in
+    let y : c .empty-reach .result .texts ≡ 0 = ap (λ (f : Reach). f .texts) (c .empty-reach .ensures) in
     let n = c .before .before .before .before .before .if1 .left in (
       record {
         kinds = omega (arith, z, n);
@@ -55,7 +55,7 @@ agrees-spec =
     slice-aggregate-parse-value-2
     slice-aggregate-parse-value-3
     slice-aggregate-parse-value-4
-    empty-front-requires
+    empty-reach-requires
     parse-value-requires
     same-value-requires
     returns-2)
