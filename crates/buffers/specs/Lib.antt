@@ -1,3 +1,4 @@
 pub mod Wrote
 pub mod Same
 pub mod Ascii
+pub mod Moments

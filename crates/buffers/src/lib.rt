@@ -8,7 +8,7 @@ ghost use Rattle.buffers.specs.Wrote.{Wrote};
 ghost use Rattle.buffers.specs.Same.{same as sameBytes};
 
 // Appends a byte behind the first `at`. The answer is where the text then ends.
-pub fn put(out: &mut [u8], at: usize, b: u8) -> usize
+pub fn append_byte(out: &mut [u8], at: usize, b: u8) -> usize
     requires { ⌜ at < length (now out) ⌝ }
     ensures { λ r. ⌜ Wrote (now (out .entry)) at (now (out .exit)) r (b ∷ []) ⌝ }
 {
@@ -17,7 +17,7 @@ pub fn put(out: &mut [u8], at: usize, b: u8) -> usize
 }
 
 // Appends all of s behind the first `at`. The answer is where the text then ends.
-pub fn copy(out: &mut [u8], at: usize, s: &[u8]) -> usize
+pub fn append_bytes(out: &mut [u8], at: usize, s: &[u8]) -> usize
     requires { ⌜ at + length (now s) ≤ length (now out) ⌝ }
     ensures { λ r. ⌜ Wrote (now (out .entry)) at (now (out .exit)) r (now (s .entry)) ⌝ }
 {

@@ -12,7 +12,7 @@ use lib.ListN.{length, getD, take, drop, take-append-drop, length-take}
 use lib.Seq.{getD-drop, length-take-le}
 use borrow.Author.Tests.{ltb-true, lt-ltb, le-ltb}
 use Rattle.buffers.proofs.Choice.{both-arms, or-cases, or-left, or-right}
-use Rattle.chars.specs.Utf8.{low, high, charOf, charAt, after, utf8From, utf8, starts}
+use Rattle.chars.specs.Utf8.{low, high, charOf, charAt, behindChar, utf8From, utf8, starts}
 use Rattle.chars.specs.declared.Step.{Step}
 use Rattle.chars.specs.declared.Step.the-variants.{Char, Bad}
 use Rattle.chars.proofs.Reading.{low-128, high-191, whole}
@@ -84,11 +84,11 @@ utf8-from-append zero [] w l h = refl
 utf8-from-append (suc k) [] w l h = absurd (omega arith)
 utf8-from-append (suc k) (a ∷ r) w l h = utf8-from-append k r w (omega arith) h
 utf8-from-append zero (a ∷ r) w l h =
-    ap (λ (t : Step). after t (λ k. utf8From k (r ++ w))) (char-cut (a ∷ r) w (omega arith) h)
+    ap (λ (t : Step). behindChar t (λ k. utf8From k (r ++ w))) (char-cut (a ∷ r) w (omega arith) h)
     ∙ go (charAt (a ∷ r)) refl (λ k m. utf8-from-append k r w m h)
   where
     go : (t : Step) → charAt (a ∷ r) ≡ t → ((k : ℕ) → k ≤ length r → utf8From k (r ++ w) ≡ (utf8From k r && utf8 w))
-        → after t (λ k. utf8From k (r ++ w)) ≡ (after t (λ k. utf8From k r) && utf8 w)
+        → behindChar t (λ k. utf8From k (r ++ w)) ≡ (behindChar t (λ k. utf8From k r) && utf8 w)
     go (Char c n) e ih = ih (n - 1) (omega (arith, whole (a ∷ r) c n e))
     go Bad e ih = refl
 

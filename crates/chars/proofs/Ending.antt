@@ -129,12 +129,12 @@ wide-last (a ∷ r) m e w h = go (charAt (a ∷ r)) refl w
         le = rw (← w) (by-cond (λ (x : ℕ). x ≤ n) (white c) n 0 (λ _. omega arith) (λ _. omega arith))
     go Bad f w = absurd (omega arith)
 
-module _ (s : List ℕ) (some : 0 < length s) where
+module _ (s : List ℕ) (nonempty : 0 < length s) where
   pub ends-ascii : getD s (length s - 1) 0 < 0x80 → white (getD s (length s - 1) 0) ≡ false → EndsIn s 0
-  ends-ascii h w = record { some = λ l. absurd (omega arith); none = λ _ m e. never m e }
+  ends-ascii h w = record { nonempty = λ l. absurd (omega arith); nothing = λ _ m e. never m e }
     where
       one : whiteAt (drop (length s - 1) s) ≡ 0
-      one = ap whiteAt (last-one s some) ∙ white-ascii (getD s (length s - 1) 0) [] h ∙ ap (λ (t : Bool). cond t 1 0) w
+      one = ap whiteAt (last-one s nonempty) ∙ white-ascii (getD s (length s - 1) 0) [] h ∙ ap (λ (t : Bool). cond t 1 0) w
 
       never : (m : ℕ) → EndsAt s m → ⊥
       never zero e = let p = e .0 in omega arith
@@ -151,12 +151,12 @@ module _ (s : List ℕ) (some : 0 < length s) where
           )
 
   pub ends-wide : (m : ℕ) → 0 < m → m ≤ length s → whiteAt (drop (length s - m) s) ≡ m → EndsIn s m
-  ends-wide m p l e = record { some = λ _. (p, l, e); none = λ z. absurd (omega arith) }
+  ends-wide m p l e = record { nonempty = λ _. (p, l, e); nothing = λ z. absurd (omega arith) }
 
   pub ends-none : (whiteAt (drop (length s - 1) s) ≡ 1 → ⊥)
       → (2 ≤ length s → whiteAt (drop (length s - 2) s) ≡ 2 → ⊥)
       → (3 ≤ length s → whiteAt (drop (length s - 3) s) ≡ 3 → ⊥) → EndsIn s 0
-  ends-none one two three = record { some = λ l. absurd (omega arith); none = λ _ m e. never m e }
+  ends-none one two three = record { nonempty = λ l. absurd (omega arith); nothing = λ _ m e. never m e }
     where
       never : (m : ℕ) → EndsAt s m → ⊥
       never zero e = let p = e .0 in omega arith

@@ -13,7 +13,7 @@ use lib.ListN.{length, getD, drop, length-drop, List·getD-eq-default}
 use lib.Seq.{drop-cons, drop-drop, getD-drop}
 use borrow.Author.Tests.{ltb-true, ltb-false, lt-ltb}
 use Rattle.buffers.proofs.Choice.{by-cond}
-use Rattle.chars.specs.Utf8.{low, high, charOf, charAt, after, utf8From, utf8}
+use Rattle.chars.specs.Utf8.{low, high, charOf, charAt, behindChar, utf8From, utf8}
 use Rattle.chars.specs.Post.{Advances}
 use Rattle.chars.specs.declared.Step.{Step}
 use Rattle.chars.specs.declared.Step.the-variants.{Char, Bad}
@@ -23,17 +23,17 @@ abbrev pub Continues : ℕ → Type 0
 Continues b = (0x80 ≤ b) × (b ≤ 0xBF)
 
 -- what is known of the bytes of a character that was read
-pub record Read (a b c d n : ℕ) : Type 0 where
-  pub some : 1 ≤ n
+pub record CharRead (a b c d n : ℕ) : Type 0 where
+  pub nonempty : 1 ≤ n
   pub few : n ≤ 4
   pub first : (a < 0x80) ⊎ (0xC2 ≤ a)
   pub second : 2 ≤ n → Continues b
   pub third : 3 ≤ n → Continues c
   pub fourth : 4 ≤ n → Continues d
 
-abbrev Reads : ℕ → ℕ → ℕ → ℕ → Step → Type 0
-Reads a b c d (Char code n) = Read a b c d n
-Reads a b c d Bad = Unit {0}
+abbrev CharReads : ℕ → ℕ → ℕ → ℕ → Step → Type 0
+CharReads a b c d (Char code n) = CharRead a b c d n
+CharReads a b c d Bad = Unit {0}
 
 pub low-128 : (a : ℕ) → 128 ≤ low a
 unfolding low
@@ -53,10 +53,10 @@ high-191 a = go (eqb a 0xED) (eqb a 0xF4)
     go false true = omega arith
     go false false = omega arith
 
-reads : (a b c d : ℕ) → Reads a b c d (charOf a b c d)
+reads : (a b c d : ℕ) → CharReads a b c d (charOf a b c d)
 unfolding charOf
 reads a b c d =
-    let P = Reads a b c d in
+    let P = CharReads a b c d in
     by-cond P (ltb a 0x80) _ _ (λ h1. one (ltb-true _ _ h1)) (λ h1.
     by-cond P (ltb a 0xC2) _ _ (λ h2. tt) (λ h2.
     by-cond P (ltb 0xF4 a) _ _ (λ h3. tt) (λ h3.
@@ -76,9 +76,9 @@ reads a b c d =
     second : ltb b (low a) ≡ false → ltb (high a) b ≡ false → Continues b
     second p q = (omega (arith, low-128 a, ltb-false b (low a) p), omega (arith, high-191 a, ltb-false (high a) b q))
 
-    one : a < 0x80 → Read a b c d 1
+    one : a < 0x80 → CharRead a b c d 1
     one h = record {
-      some = omega arith;
+      nonempty = omega arith;
       few = omega arith;
       first = inl h;
       second = λ l. absurd (omega arith);
@@ -86,10 +86,10 @@ reads a b c d =
       fourth = λ l. absurd (omega arith);
     }
 
-    more : (n : ℕ) → 1 ≤ n → n ≤ 4 → ltb a 0xC2 ≡ false → Continues b → (3 ≤ n → Continues c) → (4 ≤ n → Continues d) → Read a b c d n
-    more n h l f s t u = record { some = h; few = l; first = inr (ltb-false _ _ f); second = λ _. s; third = t; fourth = u }
+    more : (n : ℕ) → 1 ≤ n → n ≤ 4 → ltb a 0xC2 ≡ false → Continues b → (3 ≤ n → Continues c) → (4 ≤ n → Continues d) → CharRead a b c d n
+    more n h l f s t u = record { nonempty = h; few = l; first = inr (ltb-false _ _ f); second = λ _. s; third = t; fourth = u }
 
-pub read : (a b c d code n : ℕ) → charOf a b c d ≡ Char code n → Read a b c d n
+pub read : (a b c d code n : ℕ) → charOf a b c d ≡ Char code n → CharRead a b c d n
 read a b c d code n e = rw e at (reads a b c d)
 
 -- a byte that is not 0 stands in the list
@@ -108,7 +108,7 @@ pub whole : (s : List ℕ) (code n : ℕ) → charAt s ≡ Char code n → n ≤
 whole [] code n e = let z : _≡_ {A = ℕ} 0 1 = cc in absurd (omega arith)
 whole (a ∷ r) code n e = go n (read _ _ _ _ code n e)
   where
-    go : (n : ℕ) → Read a (getD r 0 0) (getD r 1 0) (getD r 2 0) n → n ≤ suc (length r)
+    go : (n : ℕ) → CharRead a (getD r 0 0) (getD r 1 0) (getD r 2 0) n → n ≤ suc (length r)
     go zero k = omega arith
     go (suc zero) k = omega arith
     go (suc (suc zero)) k = let h = k .second (omega arith) .0 in omega (arith, inside r 0 (omega arith))
@@ -117,9 +117,9 @@ whole (a ∷ r) code n e = go n (read _ _ _ _ code n e)
     go (suc (suc (suc (suc (suc n))))) k = let h = k .few in absurd (omega arith)
 
 -- a character takes one to four bytes
-pub some : (s : List ℕ) (code n : ℕ) → charAt s ≡ Char code n → 1 ≤ n
-some [] code n e = let z : _≡_ {A = ℕ} 0 1 = cc in absurd (omega arith)
-some (a ∷ r) code n e = read _ _ _ _ code n e .some
+pub nonempty : (s : List ℕ) (code n : ℕ) → charAt s ≡ Char code n → 1 ≤ n
+nonempty [] code n e = let z : _≡_ {A = ℕ} 0 1 = cc in absurd (omega arith)
+nonempty (a ∷ r) code n e = read _ _ _ _ code n e .nonempty
 
 -- the character at a place, by the four bytes there
 pub char-here : (s : List ℕ) (at : ℕ) → at < length s
@@ -144,9 +144,9 @@ pub char-onward : (s : List ℕ) (code n : ℕ) → charAt s ≡ Char code n →
 unfolding utf8From
 char-onward [] code n e = let z : _≡_ {A = ℕ} 0 1 = cc in absurd (omega arith)
 char-onward (a ∷ r) code n e =
-    ap (λ (t : Step). after t (λ k. utf8From k r)) e
+    ap (λ (t : Step). behindChar t (λ k. utf8From k r)) e
     ∙ skip (n - 1) r
-    ∙ go n (read _ _ _ _ code n e .some)
+    ∙ go n (read _ _ _ _ code n e .nonempty)
   where
     go : (n : ℕ) → 1 ≤ n → utf8 (drop (n - 1) r) ≡ utf8 (drop n (a ∷ r))
     go zero h = absurd (omega arith)
@@ -156,7 +156,7 @@ char-onward (a ∷ r) code n e =
 pub char-stuck : (s : List ℕ) → 0 < length s → charAt s ≡ Bad → utf8 s ≡ false
 unfolding utf8From
 char-stuck [] h e = absurd (omega arith)
-char-stuck (a ∷ r) h e = ap (λ (t : Step). after t (λ k. utf8From k r)) e
+char-stuck (a ∷ r) h e = ap (λ (t : Step). behindChar t (λ k. utf8From k r)) e
 
 pub ascii-char : (a : ℕ) (r : List ℕ) → a < 0x80 → charAt (a ∷ r) ≡ Char a 1
 unfolding charOf
@@ -177,7 +177,7 @@ module _ (s : List ℕ) (at : ℕ) (h : at < length s) where
   advance-char c n e = record {
     inside = omega (arith, whole (drop at s) c n e, length-drop at s);
     onward = char-onward (drop at s) c n e ∙ ap utf8 (drop-drop n at s);
-    stuck = λ z. absurd (omega (arith, some (drop at s) c n e));
+    stuck = λ z. absurd (omega (arith, nonempty (drop at s) c n e));
   }
 
   pub advance-ascii : (n : ℕ) → 1 ≤ n → at + n ≤ length s → ((i : ℕ) → i < n → getD s (at + i) 0 < 0x80) → Advances s at n

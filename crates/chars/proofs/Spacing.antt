@@ -20,22 +20,22 @@ use Rattle.chars.proofs.Ending.{not-white, white-first, white-ascii, la
 past-space : (a : ℕ) → 32 < a → a < 128 → white a ≡ false
 past-space a h l = not-white a h (λ g k. omega arith)
 
-module _ (s : List ℕ) (some : 0 < length s) where
+module _ (s : List ℕ) (nonempty : 0 < length s) where
   pub begins-past : 32 < getD s 0 0 → getD s 0 0 < 128 → whiteAt s ≡ 0
-  begins-past h l = white-first s some l ∙ ap (λ (t : Bool). cond t 1 0) (past-space (getD s 0 0) h l)
+  begins-past h l = white-first s nonempty l ∙ ap (λ (t : Bool). cond t 1 0) (past-space (getD s 0 0) h l)
 
   pub ends-past : 32 < getD s (length s - 1) 0 → getD s (length s - 1) 0 < 128 → EndsIn s 0
-  ends-past h l = ends-ascii s some l (past-space (getD s (length s - 1) 0) h l)
+  ends-past h l = ends-ascii s nonempty l (past-space (getD s (length s - 1) 0) h l)
 
   pub ends-space : getD s (length s - 1) 0 ≡ 32 → EndsIn s 1
   unfolding white wideWhite
   ends-space e =
-      ends-wide s some 1 (omega arith) (omega arith)
-      (ap whiteAt (last-one s some) ∙ white-ascii (getD s (length s - 1) 0) [] (omega arith) ∙ ap (λ (a : ℕ). cond (white a) 1 0) e)
+      ends-wide s nonempty 1 (omega arith) (omega arith)
+      (ap whiteAt (last-one s nonempty) ∙ white-ascii (getD s (length s - 1) 0) [] (omega arith) ∙ ap (λ (a : ℕ). cond (white a) 1 0) e)
 
   pub begins-space : getD s 0 0 ≡ 32 → whiteAt s ≡ 1
   unfolding white wideWhite
-  begins-space e = white-first s some (omega arith) ∙ ap (λ (a : ℕ). cond (white a) 1 0) e
+  begins-space e = white-first s nonempty (omega arith) ∙ ap (λ (a : ℕ). cond (white a) 1 0) e
 
 -- one space and what is no White_Space
 pub one-space : (s : List ℕ) → 2 ≤ length s → getD s 0 0 ≡ 32 → 32 < getD s 1 0 → getD s 1 0 < 128 → trimStart s ≡ drop 1 s

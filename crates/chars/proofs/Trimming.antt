@@ -21,6 +21,16 @@ use Rattle.chars.specs.declared.Step.the-variants.{Char, Bad}
 use Rattle.chars.proofs.Reading.{read, whole}
 use Rattle.chars.proofs.Boundary.{starts-low, starts-high, char-cut}
 
+-- ---- an empty text by its length
+
+pub empty-none : (l : List ℕ) → length l ≡ 0 → empty l ≡ true
+empty-none [] h = refl
+empty-none (a ∷ r) h = absurd (omega arith)
+
+pub empty-some : (l : List ℕ) → 0 < length l → empty l ≡ false
+empty-some [] h = absurd (omega arith)
+empty-some (a ∷ r) h = refl
+
 -- ---- the White_Space character at the start
 
 width-le : (t : Step) (m : ℕ) → ((c n : ℕ) → t ≡ Char c n → n ≤ m) → widthOf t ≤ m

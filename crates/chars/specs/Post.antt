@@ -27,8 +27,8 @@ EndsAt s n = (0 < n) × (n ≤ length s) × (whiteAt (drop (length s - n) s) ≡
 
 -- the last n bytes of s are a White_Space character, or n is 0 and s ends in none
 pub record EndsIn (s : List ℕ) (n : ℕ) : Type 0 where
-  pub some : 0 < n → EndsAt s n
-  pub none : n ≡ 0 → (m : ℕ) → EndsAt s m → ⊥
+  pub nonempty : 0 < n → EndsAt s n
+  pub nothing : n ≡ 0 → (m : ℕ) → EndsAt s m → ⊥
 
 -- the first n bytes are spaces
 abbrev pub Spaces : List ℕ → ℕ → Type 0

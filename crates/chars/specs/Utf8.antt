@@ -45,15 +45,15 @@ charAt [] = Bad
 charAt (a ∷ r) = charOf a (getD r 0 0) (getD r 1 0) (getD r 2 0)
 
 -- go on behind the character that was read, past so many bytes more
-abbrev pub after : Step → (ℕ → Bool) → Bool
-after (Char c n) f = f (n - 1)
-after Bad f = false
+abbrev pub behindChar : Step → (ℕ → Bool) → Bool
+behindChar (Char c n) f = f (n - 1)
+behindChar Bad f = false
 
 -- the text is UTF-8 behind its first k bytes, which are the rest of a character
 unfoldable pub utf8From : ℕ → List ℕ → Bool
 utf8From k [] = true
 utf8From (suc k) (a ∷ r) = utf8From k r
-utf8From zero (a ∷ r) = after (charAt (a ∷ r)) (λ k. utf8From k r)
+utf8From zero (a ∷ r) = behindChar (charAt (a ∷ r)) (λ k. utf8From k r)
 
 abbrev pub utf8 : List ℕ → Bool
 utf8 s = utf8From 0 s

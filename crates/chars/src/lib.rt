@@ -143,8 +143,8 @@ fn append_two(out: &mut [u8], at: usize, a: u8, b: u8) -> usize
     requires { ⌜ at + 2 ≤ length (now out) ⌝ }
     ensures { λ r. ⌜ Wrote (now (out .entry)) at (now (out .exit)) r (a ∷ b ∷ []) ⌝ }
 {
-    let next = buffers::put(out, at, a);
-    buffers::put(out, next, b)
+    let next = buffers::append_byte(out, at, a);
+    buffers::append_byte(out, next, b)
 }
 
 // Appends the character c behind the first `at`. The answer is where the text then ends.
@@ -153,7 +153,7 @@ pub fn append_char(out: &mut [u8], at: usize, c: u32) -> usize
     ensures { λ r. ⌜ Wrote (now (out .entry)) at (now (out .exit)) r (encode c) ⌝ }
 {
     if c < 0x80 {
-        return buffers::put(out, at, c as u8);
+        return buffers::append_byte(out, at, c as u8);
     }
     let last = (0x80 + c % 64) as u8;
     if c < 0x800 {
@@ -162,7 +162,7 @@ pub fn append_char(out: &mut [u8], at: usize, c: u32) -> usize
     let middle = (0x80 + c / 64 % 64) as u8;
     if c < 0x10000 {
         let end = append_two(out, at, (0xe0 + c / 4096) as u8, middle);
-        return buffers::put(out, end, last);
+        return buffers::append_byte(out, end, last);
     }
     let end = append_two(
         out,

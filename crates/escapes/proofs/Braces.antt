@@ -16,8 +16,8 @@ use Rattle.escapes.specs.Unescape.{hexDigit, digitThen, digitsFrom, hexN
 use Rattle.escapes.specs.Walk.{bracesOf, braces, unnamed, moreDigits, numbered}
 use Rattle.escapes.specs.declared.Escape.the-variants.{Verbatim}
 
-abbrev pub Reads : Type 0
-Reads = List ℕ → Option ℕ
+abbrev pub BodyReads : Type 0
+BodyReads = List ℕ → Option ℕ
 
 -- the braces as the definition has them
 pub braces-named : (r : List ℕ) → braces named 2 r ≡ unicodeOf r (braced r)
@@ -29,7 +29,7 @@ braces-named r = go (braced r)
     go none = refl
 
 -- a byte that is no } is read
-pub next : (f g : Reads) (n b : ℕ) (r : List ℕ) → (b ≡ 125 → ⊥) → ((h : List ℕ) → f (b ∷ h) ≡ g h) → braces f n (b ∷ r) ≡ braces g (n + 1) r
+pub next : (f g : BodyReads) (n b : ℕ) (r : List ℕ) → (b ≡ 125 → ⊥) → ((h : List ℕ) → f (b ∷ h) ≡ g h) → braces f n (b ∷ r) ≡ braces g (n + 1) r
 unfolding braces braced
 next f g n b r h e = rw (ne-eqb b 125 h) (go (braced r))
   where
@@ -40,12 +40,12 @@ next f g n b r h e = rw (ne-eqb b 125 h) (go (braced r))
     go (some body) = ap₂ charOr (e body) (along (suc (length body)))
     go none = ap Verbatim (along (length r))
 
-pub close : (f : Reads) (n : ℕ) (r : List ℕ) → braces f n (125 ∷ r) ≡ charOr (f []) (n + 1)
+pub close : (f : BodyReads) (n : ℕ) (r : List ℕ) → braces f n (125 ∷ r) ≡ charOr (f []) (n + 1)
 unfolding braces braced
 close f n r = refl
 
 -- readings that agree behind the first byte
-pub same-first : (f g : Reads) (n b : ℕ) (r : List ℕ) → f [] ≡ g [] → ((h : List ℕ) → f (b ∷ h) ≡ g (b ∷ h)) → braces f n (b ∷ r) ≡ braces g n (b ∷ r)
+pub same-first : (f g : BodyReads) (n b : ℕ) (r : List ℕ) → f [] ≡ g [] → ((h : List ℕ) → f (b ∷ h) ≡ g (b ∷ h)) → braces f n (b ∷ r) ≡ braces g n (b ∷ r)
 unfolding braces braced
 same-first f g n b r e e' = go (eqb b 125) (braced r)
   where
@@ -56,19 +56,19 @@ same-first f g n b r e e' = go (eqb b 125) (braced r)
 
 -- the same at a place of the text
 module _ (s : List ℕ) (i n : ℕ) where
-  pub next-at : (f g : Reads) → i < length s → (getD s i 0 ≡ 125 → ⊥) → ((h : List ℕ) → f (getD s i 0 ∷ h) ≡ g h)
+  pub next-at : (f g : BodyReads) → i < length s → (getD s i 0 ≡ 125 → ⊥) → ((h : List ℕ) → f (getD s i 0 ∷ h) ≡ g h)
       → braces f n (drop i s) ≡ braces g (n + 1) (drop (i + 1) s)
   next-at f g h b e = rw (add-one i, drop-cons s i 0 h) (next f g n (getD s i 0) (drop (suc i) s) b e)
 
-  pub close-at : (f : Reads) → i < length s → getD s i 0 ≡ 125 → braces f n (drop i s) ≡ charOr (f []) (n + 1)
+  pub close-at : (f : BodyReads) → i < length s → getD s i 0 ≡ 125 → braces f n (drop i s) ≡ charOr (f []) (n + 1)
   close-at f h e = rw (drop-cons s i 0 h, e) (close f n (drop (suc i) s))
 
   -- what is no name with this byte is none with any that follow
-  pub no-name-at : (f : Reads) → i < length s → (getD s i 0 ≡ 125 → ⊥) → ((h : List ℕ) → f (getD s i 0 ∷ h) ≡ none)
+  pub no-name-at : (f : BodyReads) → i < length s → (getD s i 0 ≡ 125 → ⊥) → ((h : List ℕ) → f (getD s i 0 ∷ h) ≡ none)
       → braces f n (drop i s) ≡ braces unnamed n (drop i s)
   no-name-at f h b e = next-at f unnamed h b e ∙ sym (next-at unnamed unnamed h b (λ h. refl))
 
-  pub end-at : (f : Reads) → length s ≤ i → braces f n (drop i s) ≡ Verbatim n
+  pub end-at : (f : BodyReads) → length s ≤ i → braces f n (drop i s) ≡ Verbatim n
   unfolding braces braced
   end-at f h = rw (drop-of-length-le s h) (ap Verbatim (none-left n))
     where

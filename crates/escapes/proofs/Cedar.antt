@@ -18,7 +18,7 @@ use Rattle.escapes.specs.Walk.{braces, numbered}
 use Rattle.escapes.specs.Cedar.{Literal, char, wrong, asciiOf, nextDigit, unicodeFrom, literalAt, beforeRest, literally, cedarFrom, cedar}
 use Rattle.escapes.specs.declared.Escape.{Escape}
 use Rattle.escapes.specs.declared.Escape.the-variants.{Char, Verbatim}
-use Rattle.escapes.proofs.Braces.{Reads, braces-named, next, close, same-first, digit, underscore, first-other}
+use Rattle.escapes.proofs.Braces.{BodyReads, braces-named, next, close, same-first, digit, underscore, first-other}
 use Rattle.escapes.proofs.Unescaping.{unescape-plain}
 
 -- an escape that Cedar accepts is the same escape in decoding

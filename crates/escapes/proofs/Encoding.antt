@@ -11,7 +11,7 @@ use Rattle.chars.specs.Utf8.{encode}
 
 -- how many bytes a character takes
 pub record Size (c n : ℕ) : Type 0 where
-  pub some : 1 ≤ n
+  pub nonempty : 1 ≤ n
   pub few : n ≤ 4
   pub two : c < 0x800 → n ≤ 2
 
@@ -27,4 +27,4 @@ encoded c =
     S l = Size c (length l)
 
     size : (n : ℕ) → 1 ≤ n → n ≤ 4 → (c < 0x800 → n ≤ 2) → Size c n
-    size n h l f = record { some = h; few = l; two = f }
+    size n h l f = record { nonempty = h; few = l; two = f }

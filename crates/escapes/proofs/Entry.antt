@@ -18,24 +18,24 @@ use Rattle.escapes.specs.declared.Decoded.{Decoded}
 use Rattle.escapes.specs.declared.Decoded.the-variants.{Written, Refused}
 
 -- the answer, and what the output holds
-abbrev pub Answers : List ℕ → List ℕ → Decoded → List ℕ → Type 0
-Answers text output answer after = (answer ≡ decoded text (length output)) × (after ≡ outputAfter text output)
+abbrev pub DecodeAnswers : List ℕ → List ℕ → Decoded → List ℕ → Type 0
+DecodeAnswers text output answer after = (answer ≡ decoded text (length output)) × (after ≡ outputAfter text output)
 
 module _ (text output : List ℕ) where
-  refused : (k : ℕ) → decoded text (length output) ≡ Refused k → Answers text output (Refused k) output
+  refused : (k : ℕ) → decoded text (length output) ≡ Refused k → DecodeAnswers text output (Refused k) output
   refused k e = (sym e, sym (ap (filled text output) e))
 
-  pub too-long : leb (length text) textLimit ≡ false → Answers text output (Refused 2) output
+  pub too-long : leb (length text) textLimit ≡ false → DecodeAnswers text output (Refused 2) output
   unfolding decoded
   too-long l = refused 2 (rw l)
 
   module _ (l : leb (length text) textLimit ≡ true) where
-    pub no-utf8 : utf8 text ≡ false → Answers text output (Refused 3) output
+    pub no-utf8 : utf8 text ≡ false → DecodeAnswers text output (Refused 3) output
     unfolding decoded
     no-utf8 u = refused 3 (rw (l, u))
 
     module _ (u : utf8 text ≡ true) (n : ℕ) (e : n ≡ length (unescape text)) where
-      pub no-room : length output < n → Answers text output (Refused 5) output
+      pub no-room : length output < n → DecodeAnswers text output (Refused 5) output
       unfolding decoded
       no-room h = refused 5 (rw (l, u, lt-leb (length (unescape text)) (length output) (omega arith)))
 
@@ -45,7 +45,7 @@ module _ (text output : List ℕ) where
 
       -- the output's first n bytes were lent, and came back as `front`
       pub written : (front : List ℕ) (end : ℕ) → n ≤ length output → length front ≡ length (take n output)
-          → Wrote (take n output) 0 front end (unescape text) → Answers text output (Written n) (front ++ drop n output)
+          → Wrote (take n output) 0 front end (unescape text) → DecodeAnswers text output (Written n) (front ++ drop n output)
       written front end h k w =
           (sym (fits h), ap (λ (t : List ℕ). t ++ drop n output) whole ∙ sym (ap (filled text output) (fits h)))
         where

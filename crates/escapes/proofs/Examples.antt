@@ -51,90 +51,90 @@ unfolding cedarFrom literalAt unicodeFrom unescapeFrom escapeAt shortOr braced n
 accepted = (refl, refl)
 
 -- Cedar refuses s, and decoding gives out
-abbrev Parts : List ℕ → List ℕ → Type 0
-Parts s out = (cedar s ≡ none) × (unescape s ≡ out)
+abbrev EscapeParts : List ℕ → List ℕ → Type 0
+EscapeParts s out = (cedar s ≡ none) × (unescape s ≡ out)
 
 -- a + before the digits
-pub plus : Parts (ascii "\\u{+0}") (0 ∷ [])
+pub plus : EscapeParts (ascii "\\u{+0}") (0 ∷ [])
 unfolding cedarFrom literalAt unicodeFrom unescapeFrom escapeAt shortOr braced named withoutUnderscore digitsFrom hexDigit scalar encode
 plus = (refl, refl)
 
 -- more than six digits
-pub seven-digits : Parts (ascii "\\u{0000000}") (0 ∷ [])
+pub seven-digits : EscapeParts (ascii "\\u{0000000}") (0 ∷ [])
 unfolding cedarFrom literalAt unicodeFrom unescapeFrom escapeAt shortOr braced named withoutUnderscore digitsFrom hexDigit scalar encode
 seven-digits = (refl, refl)
 
 -- \x with one digit
-pub one-digit : Parts (ascii "\\x0") (0 ∷ [])
+pub one-digit : EscapeParts (ascii "\\x0") (0 ∷ [])
 unfolding cedarFrom literalAt unicodeFrom unescapeFrom escapeAt shortOr braced named withoutUnderscore digitsFrom hexDigit scalar encode
 one-digit = (refl, refl)
 
 -- \x with two digits past 7F: the bytes of U+0080
-pub past-7F : Parts (ascii "\\x80") (194 ∷ 128 ∷ [])
+pub past-7F : EscapeParts (ascii "\\x80") (194 ∷ 128 ∷ [])
 unfolding cedarFrom literalAt unicodeFrom unescapeFrom escapeAt shortOr braced named withoutUnderscore digitsFrom hexDigit scalar encode
 past-7F = (refl, refl)
 
 -- \x without a digit
-pub no-digit : Parts (ascii "\\x") (ascii "\\x")
+pub no-digit : EscapeParts (ascii "\\x") (ascii "\\x")
 unfolding cedarFrom literalAt unicodeFrom unescapeFrom escapeAt shortOr braced named withoutUnderscore digitsFrom hexDigit scalar encode
 no-digit = (refl, refl)
 
 -- \u{..} that names nothing: empty
-pub empty-braces : Parts (ascii "\\u{}") (ascii "\\u{}")
+pub empty-braces : EscapeParts (ascii "\\u{}") (ascii "\\u{}")
 unfolding cedarFrom literalAt unicodeFrom unescapeFrom escapeAt shortOr braced named withoutUnderscore digitsFrom hexDigit scalar encode
 empty-braces = (refl, refl)
 
 -- .. a _ first
-pub underscore-first : Parts (ascii "\\u{_0}") (ascii "\\u{_0}")
+pub underscore-first : EscapeParts (ascii "\\u{_0}") (ascii "\\u{_0}")
 unfolding cedarFrom literalAt unicodeFrom unescapeFrom escapeAt shortOr braced named withoutUnderscore digitsFrom hexDigit scalar encode
 underscore-first = (refl, refl)
 
 -- .. a byte that is no digit
-pub no-number : Parts (ascii "\\u{g}") (ascii "\\u{g}")
+pub no-number : EscapeParts (ascii "\\u{g}") (ascii "\\u{g}")
 unfolding cedarFrom literalAt unicodeFrom unescapeFrom escapeAt shortOr braced named withoutUnderscore digitsFrom hexDigit scalar encode
 no-number = (refl, refl)
 
 -- .. a surrogate
-pub surrogate : Parts (ascii "\\u{D800}") (ascii "\\u{D800}")
+pub surrogate : EscapeParts (ascii "\\u{D800}") (ascii "\\u{D800}")
 unfolding cedarFrom literalAt unicodeFrom unescapeFrom escapeAt shortOr braced named withoutUnderscore digitsFrom hexDigit scalar encode
 surrogate = (refl, refl)
 
 -- .. a number past 10FFFF
-pub past-10FFFF : Parts (ascii "\\u{110000}") (ascii "\\u{110000}")
+pub past-10FFFF : EscapeParts (ascii "\\u{110000}") (ascii "\\u{110000}")
 unfolding cedarFrom literalAt unicodeFrom unescapeFrom escapeAt shortOr braced named withoutUnderscore digitsFrom hexDigit scalar encode
 past-10FFFF = (refl, refl)
 
 -- \u{ without }, and all that follows it
-pub unclosed : Parts (ascii "\\u{\\n") (ascii "\\u{\\n")
+pub unclosed : EscapeParts (ascii "\\u{\\n") (ascii "\\u{\\n")
 unfolding cedarFrom literalAt unicodeFrom unescapeFrom escapeAt shortOr braced named withoutUnderscore digitsFrom hexDigit scalar encode
 unclosed = (refl, refl)
 
 -- \u without {
-pub no-brace : Parts (ascii "\\u") (ascii "\\u")
+pub no-brace : EscapeParts (ascii "\\u") (ascii "\\u")
 unfolding cedarFrom literalAt unicodeFrom unescapeFrom escapeAt shortOr braced named withoutUnderscore digitsFrom hexDigit scalar encode
 no-brace = (refl, refl)
 
 -- any other byte behind a backslash
-pub unknown : Parts (ascii "\\a") (ascii "\\a")
+pub unknown : EscapeParts (ascii "\\a") (ascii "\\a")
 unfolding cedarFrom literalAt unicodeFrom unescapeFrom escapeAt shortOr braced named withoutUnderscore digitsFrom hexDigit scalar encode
 unknown = (refl, refl)
 
 -- a backslash before a line feed
-pub line-end : Parts (ascii "\\\n") (ascii "\\\n")
+pub line-end : EscapeParts (ascii "\\\n") (ascii "\\\n")
 unfolding cedarFrom literalAt unicodeFrom unescapeFrom escapeAt shortOr braced named withoutUnderscore digitsFrom hexDigit scalar encode
 line-end = (refl, refl)
 
 -- a backslash that ends the text
-pub lone : Parts (ascii "\\") (ascii "\\")
+pub lone : EscapeParts (ascii "\\") (ascii "\\")
 unfolding cedarFrom literalAt unicodeFrom unescapeFrom escapeAt shortOr braced named withoutUnderscore digitsFrom hexDigit scalar encode
 lone = (refl, refl)
 
 -- a quote without a backslash
-pub raw-quote : Parts (ascii "\"") (ascii "\"")
+pub raw-quote : EscapeParts (ascii "\"") (ascii "\"")
 unfolding cedarFrom literalAt unicodeFrom unescapeFrom escapeAt shortOr braced named withoutUnderscore digitsFrom hexDigit scalar encode
 raw-quote = (refl, refl)
 
 -- a carriage return without a backslash
-pub raw-return : Parts (ascii "\r") (ascii "\r")
+pub raw-return : EscapeParts (ascii "\r") (ascii "\r")
 unfolding cedarFrom literalAt unicodeFrom unescapeFrom escapeAt shortOr braced named withoutUnderscore digitsFrom hexDigit scalar encode
 raw-return = (refl, refl)

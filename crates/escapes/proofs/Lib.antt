@@ -3,7 +3,6 @@ pub mod Encoding
 pub mod Braces
 pub mod Escapes
 pub mod Unescaping
-pub mod Progress
 pub mod Entry
 pub mod Cedar
 pub mod Examples

@@ -230,7 +230,7 @@ fn append_unescaped(out: &mut [u8], at: usize, s: &[u8]) -> usize
     while i < s.len() {
         if s[i] != b'\\' {
             let stop = plain_run(s, i);
-            end = buffers::copy(out, end, &s[i..stop]);
+            end = buffers::append_bytes(out, end, &s[i..stop]);
             i = stop;
             continue;
         }
@@ -249,7 +249,7 @@ fn append_unescaped(out: &mut [u8], at: usize, s: &[u8]) -> usize
             }
             Escape::Verbatim(n) => {
                 let stop = plain_run(s, i + 1 + n);
-                end = buffers::copy(out, end, &s[i..stop]);
+                end = buffers::append_bytes(out, end, &s[i..stop]);
                 i = stop;
             }
         }

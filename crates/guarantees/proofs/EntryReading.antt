@@ -13,20 +13,20 @@ use Rattle.format.specs.Refusals.{duplicateKey, entryWithoutColon, entitiesUncl
 use Rattle.chars.specs.White.{whiteAt, trimFrom, trimEnd, trim}
 use Rattle.chars.proofs.Trimming.{trim-idempotent}
 use Rattle.cuts.specs.Scan.{topLevelChar, matchingBrace, matchingParen}
-use Rattle.cuts.specs.Split.{splitFrom, splitTopLevel}
 use Rattle.cuts.specs.declared.Found.{Found}
 use Rattle.cuts.specs.declared.Found.the-variants.{At, Nothing}
 use Rattle.keys.specs.Escape.{pinned, entityUid}
 use Rattle.keys.specs.Entity.{EntityText, readEntity, findEntityQuoteOpen}
 use Rattle.keys.proofs.Trimmed.{read-key-trimmed, key-trimmed-iff}
 use Rattle.pack.specs.Value.{null, bool, integer, decimal, string, entity, array, fields, Value}
-use Rattle.values.specs.Text.{full, parts}
+use Rattle.values.specs.Text.{parts}
 use Rattle.values.specs.Parse.{parse}
+use Rattle.values.proofs.ValueLaws.{parse-trim}
 use Rattle.format.specs.Outcome.{Outcome, ok, refused}
 use Rattle.entities.specs.Entries.{Entries, noEntry, entry, countEntries, storedKeys}
 use Rattle.entities.specs.Parse.{Key, Entry, onlyRecord, onlyKey, parseEntityParents, unlessStored, entryParts, entryClosed, entryOpened, endsInColon, beforeRecord, keyText, parseEntry, withEntry, parseEntries, parseEntities}
 use Rattle.entities.proofs.EntryLaws.{no-entries}
-use Rattle.entities.proofs.KeyTexts.{Other, read-at, key-entity, other-parse}
+use Rattle.entities.proofs.KeyTexts.{OtherQuote, read-at, key-entity, other-parse}
 use Rattle.events.specs.Event.{Event}
 use Rattle.events.specs.Line.{Behind, begins, entitiesWord, envelopeAt, parseEntitiesEnvelope, parseLine}
 use Rattle.events.proofs.LineParts.{never, same-answer, taken, line-parts}
@@ -34,16 +34,11 @@ use Rattle.guarantees.specs.Keys.{entryAt, bodyUpTo, entitiesBody, keyTe
 
 -- ---- a value that is an entity
 
-parse-trim : (k : ℕ) (s : List ℕ) → parse k (trim s) ≡ parse k s
-unfolding parse
-parse-trim zero s = refl
-parse-trim (suc k) s = rw (trim-idempotent s)
-
 entity-trimmed : (s ty id : List ℕ) → trim s ≡ s → parse levels s ≡ ok (entity ty id) → readEntity s ≡ EntityText.entity ty id
 entity-trimmed s ty id t e = go (findEntityQuoteOpen s) refl
   where
     go : (f : Found) → findEntityQuoteOpen s ≡ f → readEntity s ≡ EntityText.entity ty id
-    go Nothing f = absurd (subst Other e (other-parse levels 128 s refl t f))
+    go Nothing f = absurd (subst OtherQuote e (other-parse levels 128 s refl t f))
     go (At p) f =
         let k = same-answer (sym (key-entity s p _ t f refl) ∙ ap onlyKey e) in
         read-at s p f ∙ ap (λ (x : Key). EntityText.entity (x .type) (x .id)) k
@@ -116,11 +111,11 @@ key-text-trimmed x = go (topLevelChar 123 x)
 -- ---- all of them
 
 -- as many entries as parts, each what its part's key text is read as
-pub record Entered (xs : List (List ℕ)) (es : Entries) : Type 0 where
+pub record EntryEntered (xs : List (List ℕ)) (es : Entries) : Type 0 where
   pub count : length xs ≡ countEntries es
   pub reads : (i : ℕ) → i < countEntries es → ReadAs (keyTextOf (getD xs i [])) (entryAt i es)
 
-entered-more : (x : List ℕ) (xs : List (List ℕ)) (e : Entry) (es : Entries) → ReadAs (keyTextOf x) (e .key) → Entered xs es → Entered (x ∷ xs) (withEntry e es)
+entered-more : (x : List ℕ) (xs : List (List ℕ)) (e : Entry) (es : Entries) → ReadAs (keyTextOf x) (e .key) → EntryEntered xs es → EntryEntered (x ∷ xs) (withEntry e es)
 unfolding countEntries entryAt
 entered-more x xs e es k o = record {
   count = ap suc (o .count);
@@ -131,13 +126,13 @@ entered-more x xs e es k o = record {
     go zero h = k
     go (suc i) h = o .reads i (omega arith)
 
-entered : (before : List (List ℕ)) (xs : List (List ℕ)) (es : Entries) → parseEntries before xs ≡ ok es → Entered xs es
+entered : (before : List (List ℕ)) (xs : List (List ℕ)) (es : Entries) → parseEntries before xs ≡ ok es → EntryEntered xs es
 unfolding parseEntries countEntries
-entered before [] es e = subst (Entered []) (same-answer e) (record { count = refl; reads = λ i h. absurd (omega arith) })
+entered before [] es e = subst (EntryEntered []) (same-answer e) (record { count = refl; reads = λ i h. absurd (omega arith) })
 entered before (x ∷ xs) es e =
     let a = taken (parseEntry before x) _ es e in
     let b = taken (parseEntries (before ++ entityUid pinned (a .part .key .type) (a .part .key .id) ∷ []) xs) _ es (a .next) in
-    subst (Entered (x ∷ xs)) (same-answer (b .next))
+    subst (EntryEntered (x ∷ xs)) (same-answer (b .next))
     (entered-more x xs (a .part) (b .part) (entry-key before (a .part) x (a .first)) (entered _ xs (b .part) (b .first)))
 
 -- ---- of a line
@@ -165,7 +160,7 @@ line-body s e w =
     let o = line-parts s e w in
     rw (o .time-read, o .scope-read) (body-read (o .scope .rest) (o .entities) (o .entities-read) ∙ ap (λ (x : Event). ok (x .entities)) (o .is))
 
-pub line-entered : (s : List ℕ) (e : Event) → parseLine s ≡ ok e → Entered (parts (entitiesBody s)) (e .entities)
+pub line-entered : (s : List ℕ) (e : Event) → parseLine s ≡ ok e → EntryEntered (parts (entitiesBody s)) (e .entities)
 unfolding parseEntities
 line-entered s e w = entered [] (parts (entitiesBody s)) (e .entities) (line-body s e w)
 

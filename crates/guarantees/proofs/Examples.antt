@@ -19,14 +19,14 @@ use Rattle.numbers.specs.Digits.{value}
 use Rattle.numbers.specs.Integer.{i64Of}
 use Rattle.numbers.specs.Decimal.{hasDot, decimal}
 use Rattle.pack.specs.Value.{string, noField, field, countFields}
-use Rattle.pack.specs.Pack.{emptyPack, put}
-use Rattle.pack.specs.Walk.{children, skip, pastAt, textAt, textsFrom}
+use Rattle.pack.specs.Pack.{emptyPack, appendValue}
+use Rattle.pack.specs.Walk.{children, skip, pastAt, textAt, placeKey, placesBy, textsFrom}
 use Rattle.values.specs.Text.{full, parts, wrapped}
 use Rattle.values.specs.Parse.{scalarOf, wordOr, unlessSeen, fieldValue, parseFields, parseTrimmed, parse}
 use Rattle.format.specs.Outcome.{ok}
-use Rattle.heads.specs.Head.{quoteOpenFrom, doubleColon, namesFrom, kindIn, parseEventHead, putTexts, countTexts}
-use Rattle.entities.specs.Entries.{noEntry, countEntries, putEntries}
-use Rattle.events.specs.Event.{Event, putEvent}
+use Rattle.heads.specs.Head.{quoteOpenFrom, doubleColon, namesFrom, kindIn, parseEventHead, appendTexts, countTexts}
+use Rattle.entities.specs.Entries.{noEntry, countEntries, appendEntries}
+use Rattle.events.specs.Event.{Event, appendEvent}
 use Rattle.events.specs.Line.{parseArgs, byteFrom, lastFrom, whiteFrom, parseTime, begins, parseScope, parseEntitiesEnvelope, parseContext, parseGroup, lookup, parseLine}
 use Rattle.events.specs.Answer.{lineAnswer, readLine}
 use Rattle.logs.specs.Lines.{linesOf, marked, unmarked}
@@ -40,7 +40,7 @@ one-key : keysIn (record {
   numbers = 0 ∷ 0 ∷ 0 ∷ 1 ∷ 0 ∷ 0 ∷ 1 ∷ 0 ∷ 0 ∷ 1 ∷ 4294967301 ∷ 0 ∷ 0 ∷ [];
   texts = ascii "ka::\"\"";
 }) ≡ ascii "a::\"\"" ∷ []
-unfolding keysIn pastAt skip children textsFrom textAt
+unfolding keysIn pastAt skip children textsFrom placesBy placeKey textAt
 one-key = refl
 
 abbrev line : List ℕ
@@ -70,8 +70,8 @@ tightest : parseLine (ascii "@0 ::\"\"::k(:)") ≡ ok tight
 unfolding parseLine parseTime whiteFrom whiteAt white wideWhite charOf trimFrom trimEnd i64Of many value parseScope parseEntitiesEnvelope parseContext begins same parseGroup byteFrom lastFrom parseEventHead quoteOpenFrom Rattle.keys.specs.Entity.opensId quoteFrom unescapeFrom kindIn doubleColon namesFrom parseArgs parts full splitTopLevel splitFrom onto hits step opens closes first firstFrom parseFields fieldValue unlessSeen among parse parseTrimmed wordOr wrapped scalarOf readEntity entityFrom decimal hasDot lookup
 tightest = refl
 
-twelve : length (putEvent tight emptyPack .kinds) ≡ 12
-unfolding put putTexts countTexts countFields putEntries countEntries
+twelve : length (appendEvent tight emptyPack .kinds) ≡ 12
+unfolding appendValue appendTexts countTexts countFields appendEntries countEntries
 twelve = refl
 
 -- a line feed and `@0 ::""::k()`: the second line is that, and the first is blank

@@ -4,30 +4,24 @@ use mathlib.Core.Path.{_≡_, refl, sym, ap, _∙_}
 use mathlib.Core.List.{List, [], _∷_, _++_, append-assoc, append-nil}
 use mathlib.Core.Option.{Option, none, some}
 use Prim.Native.Nat.{ℕ, zero, suc, _+_}
-use native.Mathlib.Nat.{add-zero, zero-add, add-assoc}
+use native.Mathlib.Nat.{zero-add, add-assoc}
 use native.Mathlib.Omega.{arith}
 use lib.ListN.{length, drop, length-append}
-use lib.Seq.{drop-drop, drop-at}
 use Rattle.pack.specs.Value.{Value, integer, fields}
-use Rattle.pack.specs.Pack.{Pack, node, putText, put, stretch}
+use Rattle.pack.specs.Pack.{Pack, node, appendText, appendValue, stretch}
 use Rattle.pack.specs.Closed.{kindsOf, textsOf, numbersOf}
-use Rattle.pack.specs.Walk.{children, skip, pastAt}
+use Rattle.pack.specs.Walk.{children, pastAt}
 use Rattle.pack.proofs.Appended.{pack-is}
-use Rattle.pack.proofs.Closed.{joined, put-closed, numbers-long}
-use Rattle.pack.proofs.Walking.{skip-none}
-use Rattle.pack.proofs.Laid.{past-value}
-use Rattle.heads.specs.Head.{Head, putTexts, countTexts, putHead}
-use Rattle.heads.proofs.Texts.{kindsTexts, numbersTexts, joinedTexts, texts-closed, kinds-length, numbers-length}
-use Rattle.events.specs.Event.{Event, putIf}
+use Rattle.pack.proofs.Closed.{joined, append-closed, numbers-long}
+use Rattle.pack.proofs.Laid.{past-value, past-leaf, behind}
+use Rattle.heads.specs.Head.{Head, appendTexts, countTexts, appendHead}
+use Rattle.heads.proofs.Texts.{kindsTexts, numbersTexts, joinedTexts, texts-closed, kinds-length, numbers-length, past-texts}
+use Rattle.events.specs.Event.{Event, appendIf}
 
 -- the node behind n values
 unfoldable pub pastAll : ℕ → List ℕ → List ℕ → ℕ → ℕ
 pastAll zero ks ns at = at
 pastAll (suc n) ks ns at = pastAll n ks ns (pastAt ks ns at)
-
--- what stands behind a part
-pub beyond : (l : List ℕ) (at n : ℕ) (a r : List ℕ) → drop at l ≡ a ++ r → length a ≡ n → drop (at + n) l ≡ r
-beyond l at n a r h e = sym (drop-drop n at l) ∙ rw h (drop-at a r n e)
 
 -- n values are what q has more than p
 pub record Laid (n : ℕ) (p q : Pack) : Type 0 where
@@ -56,26 +50,22 @@ then {m} {n} {p} {q} {r} a b = record {
       let l = hn ∙ append-assoc (a .numbers) (b .numbers) rn in
       past-sum m n ks ns at
       ∙ ap (pastAll n ks ns) (a .past at ks ns _ _ k l)
-      ∙ b .past (at + length (a .kinds)) ks ns rk rn (beyond ks at _ (a .kinds) _ k refl) (beyond ns at _ (a .numbers) _ l (a .even))
+      ∙ b .past (at + length (a .kinds)) ks ns rk rn (behind ks at _ (a .kinds) _ k refl) (behind ns at _ (a .numbers) _ l (a .even))
       ∙ simp (length-append, add-assoc);
 }
 
 -- ---- a value, and a node that has nothing behind it
 
-pub value-laid : (v : Value) (p : Pack) → Laid 1 p (put v p)
+pub value-laid : (v : Value) (p : Pack) → Laid 1 p (appendValue v p)
 unfolding pastAll
 value-laid v p = record {
   kinds = kindsOf v;
   numbers = numbersOf v (length (p .texts));
   texts = textsOf v;
-  is = put-closed v p;
+  is = append-closed v p;
   even = numbers-long v (length (p .texts));
   past = λ at ks ns rk rn hk hn. past-value v at (length (p .texts)) ks ns rk rn hk hn;
 }
-
-past-leaf : (k n at : ℕ) (ks ns rk rn : List ℕ) → children k n ≡ 0 → drop at ks ≡ k ∷ rk → drop at ns ≡ n ∷ rn → pastAt ks ns at ≡ at + 1
-unfolding pastAt skip
-past-leaf k n at ks ns rk rn z hk hn = rw (hk, hn, z) (omega (arith, skip-none rk rn))
 
 absent-laid : (p : Pack) → Laid 1 p (node 0 0 p)
 unfolding pastAll children
@@ -88,7 +78,7 @@ absent-laid p = record {
   past = λ at ks ns rk rn hk hn. past-leaf 0 0 at ks ns rk rn refl hk hn;
 }
 
-pub text-laid : (x : List ℕ) (p : Pack) → Laid 1 p (putText 10 x p)
+pub text-laid : (x : List ℕ) (p : Pack) → Laid 1 p (appendText 10 x p)
 unfolding pastAll children
 text-laid x p = record {
   kinds = 10 ∷ [];
@@ -99,25 +89,13 @@ text-laid x p = record {
   past = λ at ks ns rk rn hk hn. past-leaf 10 (stretch (length (p .texts)) (length x)) at ks ns rk rn refl hk hn;
 }
 
-pub option-laid : (o : Option Value) (p : Pack) → Laid 1 p (putIf o p)
+pub option-laid : (o : Option Value) (p : Pack) → Laid 1 p (appendIf o p)
 option-laid (some v) p = value-laid v p
 option-laid none p = absent-laid p
 
 -- ---- an array of texts
 
-skip-texts : (xs : List (List ℕ)) (at p : ℕ) (ks ns : List ℕ) → skip (kindsTexts xs ++ ks) (numbersTexts at xs ++ ns) (p + countTexts xs) ≡ countTexts xs + skip ks ns p
-unfolding kindsTexts numbersTexts countTexts skip children
-skip-texts [] at p ks ns = rw (add-zero p) (omega arith)
-skip-texts (x ∷ xs) at p ks ns =
-    let w : p + suc (countTexts xs) ≡ suc (p + countTexts xs) = omega arith in
-    rw (w, add-zero (p + countTexts xs)) (omega (arith, skip-texts xs (at + length x) p ks ns))
-
-past-texts : (xs : List (List ℕ)) (st at : ℕ) (ks ns rk rn : List ℕ) → drop at ks ≡ 8 ∷ (kindsTexts xs ++ rk) → drop at ns ≡ countTexts xs ∷ (numbersTexts st xs ++ rn)
-    → pastAt ks ns at ≡ at + suc (length (kindsTexts xs))
-unfolding pastAt skip children
-past-texts xs st at ks ns rk rn hk hn = rw (hk, hn) (omega (arith, skip-texts xs st 0 rk rn, skip-none rk rn, kinds-length xs))
-
-texts-laid : (xs : List (List ℕ)) (p : Pack) → Laid 1 p (putTexts xs (node 8 (countTexts xs) p))
+texts-laid : (xs : List (List ℕ)) (p : Pack) → Laid 1 p (appendTexts xs (node 8 (countTexts xs) p))
 unfolding pastAll
 texts-laid xs p = record {
   kinds = 8 ∷ kindsTexts xs;
@@ -131,13 +109,13 @@ texts-laid xs p = record {
 -- ---- an event, all but its entities
 
 time-laid : (n : ℕ) (p : Pack) → Laid 1 p (node 4 n p)
-unfolding put
+unfolding appendValue
 time-laid n p = value-laid (integer n) p
 
-head-laid : (h : Head) (p : Pack) → Laid 3 p (putHead h p)
+head-laid : (h : Head) (p : Pack) → Laid 3 p (appendHead h p)
 head-laid h p = then (then (texts-laid (h .namespace) p) (text-laid (h .action) _)) (text-laid (h .kind) _)
 
-pub parts-laid : (e : Event) (p : Pack) → Laid 8 p (put (fields (e .context)) (put (fields (e .logged)) (putHead (e .head) (putIf (e .resource) (putIf (e .principal) (node 4 (e .time) p))))))
+pub parts-laid : (e : Event) (p : Pack) → Laid 8 p (appendValue (fields (e .context)) (appendValue (fields (e .logged)) (appendHead (e .head) (appendIf (e .resource) (appendIf (e .principal) (node 4 (e .time) p))))))
 parts-laid e p =
     then (then (then (then (then (time-laid (e .time) p) (option-laid (e .principal) _)) (option-laid (e .resource) _)) (head-laid (e .head) _))
     (value-laid (fields (e .logged)) _)) (value-laid (fields (e .context)) _)

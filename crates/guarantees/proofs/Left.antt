@@ -16,7 +16,7 @@ use Rattle.chars.specs.Utf8.{utf8}
 use Rattle.chars.specs.White.{trim}
 use Rattle.pack.specs.Pack.{Pack, emptyPack}
 use Rattle.pack.proofs.Appended.{pack-is}
-use Rattle.events.specs.Event.{Event, putEvent}
+use Rattle.events.specs.Event.{Event, appendEvent}
 use Rattle.events.specs.Answer.{Answer, event, blank, refused, lineAnswer, readLine}
 use Rattle.events.proofs.Answers.{answer-event}
 use Rattle.events.proofs.Bounds.{line-small}
@@ -81,4 +81,4 @@ module _ {s : List ℕ} {p q : Pack} where
   pub taken-line : {r : LineRead} → ReadOrBlank s → enough (p .kinds) (p .numbers) (p .texts) ≡ true → ReadInto s p r q
       → (r ≡ LineRead.Blank) ⊎ ((f : Front) × (r ≡ LineRead.Event f))
   taken-line (inl h) b w = inl (w .answer ∙ rw (b, h))
-  taken-line (inr (e, h)) b w = inr (sizesOf (putEvent e emptyPack), w .answer ∙ rw (b, h))
+  taken-line (inr (e, h)) b w = inr (sizesOf (appendEvent e emptyPack), w .answer ∙ rw (b, h))

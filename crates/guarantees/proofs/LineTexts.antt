@@ -42,16 +42,16 @@ halves s n h e u =
 
 -- ---- its lines, counted from zero; where there is none, the empty text
 
-record Piece (n : ℕ) (x : List ℕ) : Type 0 where
+record TextPiece (n : ℕ) (x : List ℕ) : Type 0 where
   short : length x ≤ n
   encoded : utf8 x ≡ true
 
-empty-piece : (n : ℕ) → Piece n []
+empty-piece : (n : ℕ) → TextPiece n []
 unfolding utf8From
 empty-piece n = record { short = omega arith; encoded = refl }
 
 abbrev Pieces : List ℕ → Type 0
-Pieces s = (i : ℕ) → Piece (length s) (getD (linesOf s) i [])
+Pieces s = (i : ℕ) → TextPiece (length s) (getD (linesOf s) i [])
 
 -- a text with a byte, where the lines of shorter texts are such pieces
 cut-pieces : (s : List ℕ) → 0 < length s → utf8 s ≡ true → ((r : List ℕ) → length r < length s → utf8 r ≡ true → Pieces r) → Pieces s
@@ -60,11 +60,11 @@ cut-pieces s h u shorter i = ⊎-elim
     (λ (l : lineEnd s < length s). rw (lines-first s h) (more l (halves s (lineEnd s) l (feed-there s l) u) i))
     (eq-or-lt-of-le (line-end-within s))
   where
-    alone : lineEnd s ≡ length s → (i : ℕ) → Piece (length s) (getD (take (lineEnd s) s ∷ linesOf (drop (lineEnd s + 1) s)) i [])
+    alone : lineEnd s ≡ length s → (i : ℕ) → TextPiece (length s) (getD (take (lineEnd s) s ∷ linesOf (drop (lineEnd s + 1) s)) i [])
     alone e zero = rw (take-all (lineEnd s) s (omega arith)) (record { short = omega arith; encoded = u })
     alone e (suc i) = rw (lines-none (drop (lineEnd s + 1) s) (omega (arith, length-drop (lineEnd s + 1) s))) (empty-piece (length s))
 
-    more : lineEnd s < length s → Halves s (lineEnd s) → (i : ℕ) → Piece (length s) (getD (take (lineEnd s) s ∷ linesOf (drop (lineEnd s + 1) s)) i [])
+    more : lineEnd s < length s → Halves s (lineEnd s) → (i : ℕ) → TextPiece (length s) (getD (take (lineEnd s) s ∷ linesOf (drop (lineEnd s + 1) s)) i [])
     more l o zero = record { short = omega (arith, length-take-le (lineEnd s) s (omega arith)); encoded = o .before }
     more l o (suc i) =
         let d = length-drop (lineEnd s + 1) s in
@@ -92,10 +92,10 @@ mark-char a r m =
     let z : getD r 1 0 ≡ 0xBF = eqb-true _ 0xBF (and-right (eqb (getD r 0 0) 0xBB) _ n) in
     rw (x, y, z)
 
-unmarked-piece : (s : List ℕ) → utf8 s ≡ true → Piece (length s) (unmarked s)
+unmarked-piece : (s : List ℕ) → utf8 s ≡ true → TextPiece (length s) (unmarked s)
 unfolding unmarked marked
 unmarked-piece [] u = empty-piece 0
-unmarked-piece (a ∷ r) u = by-cond (Piece (length (a ∷ r))) (marked (a ∷ r)) (drop 3 (a ∷ r)) (a ∷ r)
+unmarked-piece (a ∷ r) u = by-cond (TextPiece (length (a ∷ r))) (marked (a ∷ r)) (drop 3 (a ∷ r)) (a ∷ r)
     (λ m. record { short = omega (arith, length-drop 3 (a ∷ r)); encoded = sym (char-onward (a ∷ r) 0xFEFF 3 (mark-char a r m)) ∙ u })
     (λ _. record { short = omega arith; encoded = u })
 

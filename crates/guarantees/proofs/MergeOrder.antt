@@ -63,21 +63,21 @@ each-merged P f s g h = each-permuted P (Permᴰ·symm (sort-permutes timeKey (e
 
 -- ---- the times rise
 
-abbrev Small : EventLine → Type 0
-Small l = l .event .time < 2 ^ 64
+abbrev SmallRank : EventLine → Type 0
+SmallRank l = l .event .time < 2 ^ 64
 
-gathered-small : (xs : List (List ℕ)) → Each Small (gather lineAnswer xs)
+gathered-small : (xs : List (List ℕ)) → Each SmallRank (gather lineAnswer xs)
 unfolding gather Each
 gathered-small [] = tt
 gathered-small (x ∷ xs) = go (lineAnswer x) refl (gathered-small xs)
   where
-    go : (a : Answer) → lineAnswer x ≡ a → Each Small (gather lineAnswer xs) → Each Small (gathered x a (gather lineAnswer xs))
+    go : (a : Answer) → lineAnswer x ≡ a → Each SmallRank (gather lineAnswer xs) → Each SmallRank (gathered x a (gather lineAnswer xs))
     go (event e) h rest = (time-small x e h, rest)
     go blank h rest = rest
     go (refused n) h rest = rest
 
 -- of two lines, the later one's key does not come first just where its time is not below
-module _ (l k : EventLine) (small-l : Small l) (small-k : Small k) where
+module _ (l k : EventLine) (small-l : SmallRank l) (small-k : SmallRank k) where
   keys-order : precedes (timeKey k) (timeKey l) ≡ ltZ (signedTime k) (signedTime l)
   keys-order = precedes-one _ _ ∙ rank-order (k .event .time) (l .event .time) small-k small-l
 
@@ -91,15 +91,15 @@ module _ (l k : EventLine) (small-l : Small l) (small-k : Small k) where
       go true e = clashℤ (ltZ-yes {a = signedTime k} {b = signedTime l} (subst T (sym e) tt)) h
       go false e = refl
 
-ascends-rises : (ls : List EventLine) → Each Small ls → Ascends timeKey ls → Rises ls
+ascends-rises : (ls : List EventLine) → Each SmallRank ls → Ascends timeKey ls → Rises ls
 unfolding Each Ascends Rises
 ascends-rises [] small h = tt
-ascends-rises (l ∷ ls) small h = (each-both Small _ _ (λ k s. not-above l k (small .0) s) ls (small .1) (h .0), ascends-rises ls (small .1) (h .1))
+ascends-rises (l ∷ ls) small h = (each-both SmallRank _ _ (λ k s. not-above l k (small .0) s) ls (small .1) (h .0), ascends-rises ls (small .1) (h .1))
 
-rises-ascends : (ls : List EventLine) → Each Small ls → Rises ls → Ascends timeKey ls
+rises-ascends : (ls : List EventLine) → Each SmallRank ls → Rises ls → Ascends timeKey ls
 unfolding Each Ascends Rises
 rises-ascends [] small h = tt
-rises-ascends (l ∷ ls) small h = (each-both Small _ _ (λ k s. not-first l k (small .0) s) ls (small .1) (h .0), rises-ascends ls (small .1) (h .1))
+rises-ascends (l ∷ ls) small h = (each-both SmallRank _ _ (λ k s. not-first l k (small .0) s) ls (small .1) (h .0), rises-ascends ls (small .1) (h .1))
 
 -- of lines that are read one after the other, no time falls just where they rise
 pub lines-rise : (xs : List (List ℕ)) → (fallFrom 1 0 xs ≡ 0) ↔ Rises (gather lineAnswer xs)
@@ -113,7 +113,7 @@ unfolding mergedLines
 merged-ascends f s = sort-ascends timeKey (eventLines f ++ eventLines s)
 
 pub merged-rises : (f s : List ℕ) → Rises (mergedLines f s)
-merged-rises f s = ascends-rises (mergedLines f s) (each-merged Small f s (gathered-small _) (gathered-small _)) (merged-ascends f s)
+merged-rises f s = ascends-rises (mergedLines f s) (each-merged SmallRank f s (gathered-small _) (gathered-small _)) (merged-ascends f s)
 
 -- ---- the first log's lines first
 

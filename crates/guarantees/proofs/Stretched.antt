@@ -67,8 +67,8 @@ module _ (s : List ℕ) (short : length s ≤ textLimit) where
   unfolding Run wrote stretchAt eventsFrom
   ended c cs at k n r h =
       let w : Written (last (countText n)) (c .lent) (c .answer) (c .output) = rw h at (r .0) in
-      let none : cs ≡ [] = rw (w .answer) at (r .1) in
-      rw (text-of (last (countText n)) c w, none, h) (append-nil (countText n))
+      let nothing : cs ≡ [] = rw (w .answer) at (r .1) in
+      rw (text-of (last (countText n)) c w, nothing, h) (append-nil (countText n))
 
   run-lines : (cs : List Call) (at : Cursor) (k n : ℕ) → k ≤ at .at + 1 → Run s (Line at k n) cs → Lists cs at k n
   unfolding Run
@@ -88,8 +88,8 @@ module _ (s : List ℕ) where
       let rest = run-lines s (accepted-iff s n .0 e .0 .short) cs (firstLine s) 1 n (omega arith) on in
       rw (text-of (firstPiece s (Accepted n)) c w, rest, first-lines s)
   run-judged (Refused x l) e c cs w r =
-      let none : cs ≡ [] = rw (w .answer) at r in
-      rw (text-of (firstPiece s (Refused x l)) c w, none) (append-nil (refusalText x l))
+      let nothing : cs ≡ [] = rw (w .answer) at r in
+      rw (text-of (firstPiece s (Refused x l)) c w, nothing) (append-nil (refusalText x l))
 
   pub run-lists : (cs : List Call) → Run s Start cs → wrote cs ≡ nightListing s
   unfolding Run stretchAt nightListing

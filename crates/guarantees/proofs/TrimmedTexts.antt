@@ -8,7 +8,7 @@ use native.Mathlib.Omega.{arith}
 use lib.Dec.{eqb}
 use lib.ListN.{length, drop}
 use Rattle.buffers.proofs.Choice.{by-cond, and-left}
-use Rattle.chars.specs.Utf8.{charAt, after, utf8From, utf8}
+use Rattle.chars.specs.Utf8.{charAt, behindChar, utf8From, utf8}
 use Rattle.chars.specs.White.{white, widthOf, whiteAt, orPast, trimFrom, trimStart, trimEnd, trim}
 use Rattle.chars.specs.declared.Step.{Step}
 use Rattle.chars.specs.declared.Step.the-variants.{Char, Bad}
@@ -27,7 +27,7 @@ utf8-trim-from k [] h = refl
 utf8-trim-from (suc k) (a ∷ r) h = utf8-trim-from k r h
 utf8-trim-from zero (a ∷ r) h = go (charAt (a ∷ r)) h (λ k. utf8-trim-from k r)
   where
-    go : (t : Step) → after t (λ k. utf8From k r) ≡ true → ((k : ℕ) → utf8From k r ≡ true → utf8 (trimFrom k r) ≡ true)
+    go : (t : Step) → behindChar t (λ k. utf8From k r) ≡ true → ((k : ℕ) → utf8From k r ≡ true → utf8 (trimFrom k r) ≡ true)
         → utf8 (orPast (widthOf t) (a ∷ r) (λ n. trimFrom n r)) ≡ true
     go (Char c zero) e ih = by-cond (λ (w : ℕ). utf8 (orPast w (a ∷ r) (λ n. trimFrom n r)) ≡ true) (white c) 0 0 (λ _. h) (λ _. h)
     go (Char c (suc n)) e ih = by-cond (λ (w : ℕ). utf8 (orPast w (a ∷ r) (λ n. trimFrom n r)) ≡ true) (white c) (suc n) 0 (λ _. ih n (let z : suc n - 1 ≡ n = omega arith in rw z at e)) (λ _. h)

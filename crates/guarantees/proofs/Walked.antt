@@ -20,7 +20,7 @@ never-refused x n r (inr (e, b)) = let z : _≡_ {A = ℕ} 0 1 = cc in absurd (o
 
 -- ---- the lines from the line k on, n events before them; places count from zero
 
-pub record Passed (n : ℕ) (xs : List (List ℕ)) (m : ℕ) : Type 0 where
+pub record LinesPassed (n : ℕ) (xs : List (List ℕ)) (m : ℕ) : Type 0 where
   pub each : (i : ℕ) → i < length xs → ReadOrBlank (getD xs i [])
   pub count : m ≡ n + eventsIn xs
 
@@ -32,7 +32,7 @@ pub record Halted (k : ℕ) (xs : List (List ℕ)) (x line : ℕ) : Type 0 where
   pub before : (i : ℕ) → i < place → ReadOrBlank (getD xs i [])
 
 abbrev pub Ended : ℕ → ℕ → List (List ℕ) → Walked ℕ → Type 0
-Ended k n xs (behind m) = Passed n xs m
+Ended k n xs (behind m) = LinesPassed n xs m
 Ended k n xs (stopped x line) = Halted k xs x line
 
 -- reading each line alone answers what it gives in its log

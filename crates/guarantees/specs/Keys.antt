@@ -23,7 +23,7 @@ use Rattle.values.specs.Text.{parts}
 use Rattle.values.specs.Parse.{parse}
 use Rattle.entities.specs.Entries.{Entries, noEntry, entry, countEntries, storedKeys}
 use Rattle.entities.specs.Parse.{Key, beforeRecord, keyText}
-use Rattle.events.specs.Event.{Event, putEvent}
+use Rattle.events.specs.Event.{Event, appendEvent}
 use Rattle.events.specs.Line.{Behind, begins, entitiesWord, parseTime, parseScope, parseLine}
 
 -- ---- in the tables: document 01, "The pack"
@@ -85,7 +85,7 @@ pub record Accepted (s : List ℕ) (e : Event) : Type 0 where
 
 -- tables that hold the event of a line
 abbrev pub tablesOf : Event → Pack → Pack
-tablesOf e rest = followedBy (putEvent e emptyPack) rest
+tablesOf e rest = followedBy (appendEvent e emptyPack) rest
 
 -- ---- in the line
 

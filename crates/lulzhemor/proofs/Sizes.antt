@@ -49,18 +49,18 @@ abbrev pub SmallJudged : Judged → Type 0
 SmallJudged (judging.Accepted n) = n ≤ 65536
 SmallJudged (judging.Refused n line) = line ≤ 65537
 
-abbrev Within : ℕ → ℕ → Walked ℕ → Type 0
-Within count m (behind n) = n ≤ count
-Within count m (stopped e line) = line ≤ m
+abbrev WalkWithin : ℕ → ℕ → Walked ℕ → Type 0
+WalkWithin count m (behind n) = n ≤ count
+WalkWithin count m (stopped e line) = line ≤ m
 
 module _ (count m : ℕ) where
-  onward-within : (n a : ℕ) (r : Answer) (next : ℕ → Walked ℕ) → n ≤ m → ((b : ℕ) → b ≤ suc a → Within count m (next b)) → Within count m (onward n (counted a r) next)
+  onward-within : (n a : ℕ) (r : Answer) (next : ℕ → Walked ℕ) → n ≤ m → ((b : ℕ) → b ≤ suc a → WalkWithin count m (next b)) → WalkWithin count m (onward n (counted a r) next)
   onward-within n a (event e) next h i = i (suc a) (omega arith)
   onward-within n a blank next h i = i a (omega arith)
   onward-within n a (Answer.refused e) next h i = h
 
   -- a line counts once at most
-  walk-within : (n a : ℕ) (l : List (List ℕ)) → n + length l ≤ m → a + length l ≤ count → Within count m (walkFrom countLine n a l)
+  walk-within : (n a : ℕ) (l : List (List ℕ)) → n + length l ≤ m → a + length l ≤ count → WalkWithin count m (walkFrom countLine n a l)
   unfolding walkFrom
   walk-within n a [] h i = omega (arith, i)
   walk-within n a (x ∷ xs) h i =
@@ -79,7 +79,7 @@ lines-few (a ∷ r) =
     let h = lines-few r in
     both-arms (λ (l : List (List ℕ)). length l ≤ suc (length r)) (eqb a 10) (omega (arith, h)) (omega (arith, h, onto-few a (linesOf r)))
 
-walked-small : (w : Walked ℕ) → Within 65536 65537 w → SmallJudged (judgedBy w)
+walked-small : (w : Walked ℕ) → WalkWithin 65536 65537 w → SmallJudged (judgedBy w)
 walked-small (behind n) h = h
 walked-small (stopped e line) h = h
 

@@ -2,6 +2,7 @@
 // pointer. Each has the contract of the function that it calls, and refuses what that one refuses. An answer that is an enum there is a
 // number here (specs/Answer.antt, specs/Calls.antt). Assumes that the caller owns what it lends, and lends no part of an output as an input.
 ghost use mathlib.Core.Path.{_≡_};
+ghost use Rattle.buffers.specs.Moments.{before, after};
 ghost use Rattle.chars.specs.Utf8.{utf8};
 ghost use Rattle.lulzhemor.specs.Calls.{CutCall, DecodeCall, SpellCall, ReadCall, JudgeCall, MergeCall, ListCall};
 use cuts::Cut;
@@ -73,8 +74,8 @@ pub extern "C" fn lulzhemor_read_line(
     sizes: &mut [u64; Log::FRONT],
     line: &[u8],
 ) -> u64
-    ensures { λ r. ⌜ ReadCall (now (line .entry)) (now (kinds .entry)) (now (numbers .entry)) (now (texts .entry)) (now (sizes .entry))
-        r (now (kinds .exit)) (now (numbers .exit)) (now (texts .exit)) (now (sizes .exit)) ⌝ }
+    ensures { λ r. ⌜ ReadCall (before line) (before kinds) (before numbers) (before texts) (before sizes)
+        r (after kinds) (after numbers) (after texts) (after sizes) ⌝ }
 {
     match lines::read_line(kinds, numbers, texts, line) {
         LineRead::Event(front) => {
@@ -94,8 +95,8 @@ pub extern "C" fn lulzhemor_judge(
     texts: &mut [u8],
     log: &[u8],
 ) -> u64
-    ensures { λ r. ⌜ JudgeCall (now (log .entry)) (now (kinds .entry)) (now (numbers .entry)) (now (texts .entry))
-        r (now (kinds .exit)) (now (numbers .exit)) (now (texts .exit)) ⌝ }
+    ensures { λ r. ⌜ JudgeCall (before log) (before kinds) (before numbers) (before texts)
+        r (after kinds) (after numbers) (after texts) ⌝ }
 {
     match logs::judge(kinds, numbers, texts, log) {
         Judged::Accepted(count) => count as u64,
@@ -114,8 +115,8 @@ pub extern "C" fn lulzhemor_merge(
     first: &[u8],
     second: &[u8],
 ) -> u64
-    ensures { λ r. ⌜ MergeCall (now (first .entry)) (now (second .entry)) (now (kinds .entry)) (now (numbers .entry)) (now (texts .entry)) (now (out .entry))
-        r (now (kinds .exit)) (now (numbers .exit)) (now (texts .exit)) (now (out .exit)) ⌝ }
+    ensures { λ r. ⌜ MergeCall (before first) (before second) (before kinds) (before numbers) (before texts) (before out)
+        r (after kinds) (after numbers) (after texts) (after out) ⌝ }
 {
     match merging::merge(kinds, numbers, texts, out, first, second) {
         Merged::Written(count) => count as u64,
@@ -137,8 +138,8 @@ pub extern "C" fn lulzhemor_list_line(
     line: &[u8],
     number: u64,
 ) -> u64
-    ensures { λ r. ⌜ ListCall (now (line .entry)) number (now (kinds .entry)) (now (numbers .entry)) (now (texts .entry)) (now (out .entry))
-        r (now (kinds .exit)) (now (numbers .exit)) (now (texts .exit)) (now (out .exit)) ⌝ }
+    ensures { λ r. ⌜ ListCall (before line) number (before kinds) (before numbers) (before texts) (before out)
+        r (after kinds) (after numbers) (after texts) (after out) ⌝ }
 {
     match listing::list_line(kinds, numbers, texts, out, line, number) {
         Listed::Written(count) => count as u64,

@@ -1,4 +1,4 @@
--- Code points of common scripts that are in neither table, as ranges: they are told without the tables.
+-- Of inner functions alone: code points of common scripts that are in neither table, as ranges: they are told without the tables.
 -- Assumes nothing.
 use mathlib.Core.List.{List, [], _∷_}
 use Prim.Native.Nat.{ℕ}

@@ -4,27 +4,28 @@ use mathlib.Core.Path.{_≡_, refl}
 use mathlib.Core.Bool.{true, false}
 use mathlib.Core.List.{List, [], _∷_}
 use Prim.Native.Nat.{ℕ, _+_, _*_, _^_}
+use Rattle.buffers.specs.Ascii.{ascii}
 use Rattle.pack.specs.Walk.{textAt, placeKey}
 use Rattle.sorting.specs.Order.{precedes, insert, sortBy}
 use Rattle.sorting.specs.Places.{sortedPart}
 
 -- the names of document 01's listing example
 abbrev cell : List ℕ
-cell = 99 ∷ 101 ∷ 108 ∷ 108 ∷ []
+cell = ascii "cell"
 
 abbrev depth : List ℕ
-depth = 100 ∷ 101 ∷ 112 ∷ 116 ∷ 104 ∷ []
+depth = ascii "depth"
 
 listed : sortBy (λ (name : List ℕ). name) (depth ∷ cell ∷ []) ≡ cell ∷ depth ∷ []
 unfolding sortBy insert precedes
 listed = refl
 
 -- `ce` before `cell`, and nothing before the empty text
-prefix-first : precedes (99 ∷ 101 ∷ []) cell ≡ true
+prefix-first : precedes (ascii "ce") cell ≡ true
 unfolding precedes
 prefix-first = refl
 
-prefix-last : precedes cell (99 ∷ 101 ∷ []) ≡ false
+prefix-last : precedes cell (ascii "ce") ≡ false
 unfolding precedes
 prefix-last = refl
 
@@ -37,12 +38,12 @@ unfolding precedes
 not-itself = refl
 
 -- `Z` before `a`: capitals come first
-case : precedes (90 ∷ []) (97 ∷ []) ≡ true
+case : precedes (ascii "Z") (ascii "a") ≡ true
 unfolding precedes
 case = refl
 
 -- `z` before `é`, which starts with the byte 195; and U+FFFF before U+10000, which UTF-16 would turn round
-bytes-not-letters : precedes (122 ∷ []) (195 ∷ 169 ∷ []) ≡ true
+bytes-not-letters : precedes (ascii "z") (195 ∷ 169 ∷ []) ≡ true
 unfolding precedes
 bytes-not-letters = refl
 
@@ -51,6 +52,6 @@ unfolding precedes
 bytes-not-units = refl
 
 -- the places 2, 1, 0 have the texts `b`, `a`, `b`: 2 stays before 0, and the places around them stay
-sorted-places : sortedPart (placeKey (1 ∷ (2 ^ 32 + 1) ∷ (2 * 2 ^ 32 + 1) ∷ []) (98 ∷ 97 ∷ 98 ∷ [])) 1 3 (9 ∷ 2 ∷ 1 ∷ 0 ∷ 8 ∷ []) ≡ 9 ∷ 1 ∷ 2 ∷ 0 ∷ 8 ∷ []
+sorted-places : sortedPart (placeKey (1 ∷ (2 ^ 32 + 1) ∷ (2 * 2 ^ 32 + 1) ∷ []) (ascii "bab")) 1 3 (9 ∷ 2 ∷ 1 ∷ 0 ∷ 8 ∷ []) ≡ 9 ∷ 1 ∷ 2 ∷ 0 ∷ 8 ∷ []
 unfolding sortedPart placeKey textAt sortBy insert precedes
 sorted-places = refl

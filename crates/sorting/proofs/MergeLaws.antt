@@ -97,18 +97,18 @@ module _ {A : Type 0} (key : A → List ℕ) where
 
   -- ---- each run keeps its order
 
-  abbrev pub Kept : List A → List A → Type 0
-  Kept xs ys = Sublistᴰ xs (mergeBy key xs ys) × Sublistᴰ ys (mergeBy key xs ys)
+  abbrev pub MergeKept : List A → List A → Type 0
+  MergeKept xs ys = Sublistᴰ xs (mergeBy key xs ys) × Sublistᴰ ys (mergeBy key xs ys)
 
-  kept-more : (x : A) (xs : List A) → ((ys : List A) → Kept xs ys) → (ys : List A) → Kept (x ∷ xs) ys
+  kept-more : (x : A) (xs : List A) → ((ys : List A) → MergeKept xs ys) → (ys : List A) → MergeKept (x ∷ xs) ys
   kept-more x xs ih [] = rw (merge-end (x ∷ xs)) (Sublistᴰ·refl (x ∷ xs), Sublistᴰ·nil-sublist (x ∷ xs))
   kept-more x xs ih (y ∷ ys) = go (precedes (key y) (key x)) refl (kept-more x xs ih ys)
     where
-      go : (t : Bool) → precedes (key y) (key x) ≡ t → Kept (x ∷ xs) ys → Kept (x ∷ xs) (y ∷ ys)
+      go : (t : Bool) → precedes (key y) (key x) ≡ t → MergeKept (x ∷ xs) ys → MergeKept (x ∷ xs) (y ∷ ys)
       go true e k = rw (merge-right x y xs ys e) (Sublistᴰ·cons (k .0), Sublistᴰ·cons-cons refl (k .1))
       go false e k = rw (merge-left x y xs ys e) (Sublistᴰ·cons-cons refl (ih (y ∷ ys) .0), Sublistᴰ·cons (ih (y ∷ ys) .1))
 
-  pub merge-keeps : (xs ys : List A) → Kept xs ys
+  pub merge-keeps : (xs ys : List A) → MergeKept xs ys
   unfolding mergeBy
   merge-keeps [] ys = (Sublistᴰ·nil-sublist ys, Sublistᴰ·refl ys)
   merge-keeps (x ∷ xs) ys = kept-more x xs (merge-keeps xs) ys

@@ -4,6 +4,10 @@ use crate::control;
 use crate::little;
 use cuts::Cut;
 use cuts::Found;
+use format::Log;
+
+// One entry more than a body has places.
+const PLACES: usize = Log::LINE_LIMIT + 1;
 
 // So many places, eight bytes each, or a refusal, one byte: the other of the two is empty.
 fn same_cut(cut: Cut, places: &[u8], refusal: &[u8]) -> bool {
@@ -17,7 +21,7 @@ fn same_cut(cut: Cut, places: &[u8], refusal: &[u8]) -> bool {
 
 // Cuts into the first `room` entries of a table, which is then looked at whole.
 fn cut_in(room: usize, body: &[u8], places: &[u8], refusal: &[u8], wrong: usize) -> bool {
-    let mut table = [77u64; 4_097];
+    let mut table = [77u64; PLACES];
     let cut = cuts::cut_body(little::first_numbers(&mut table, room), body);
     same_cut(cut, places, refusal)
         & answers::numbers_hold(&table, places, 0, control::OUTPUT, wrong)
@@ -28,7 +32,8 @@ fn body_case(body: &[u8], places: &[u8], wrong: usize) -> bool {
     let n = places.len() / 8;
     let none = little::prefix(places, 0);
     let full = std::num::wrapping_sub_usize(n, (wrong == control::JUST_FULL) as usize);
-    let enough = cut_in(4_097, body, places, none, wrong) & cut_in(full, body, places, none, wrong);
+    let enough = cut_in(PLACES, body, places, none, wrong)
+        & cut_in(full, body, places, none, wrong);
     if n == 0 {
         return enough;
     }
@@ -52,7 +57,7 @@ pub fn agrees(op: usize, input: &[u8], answer: &[u8], wrong: usize) -> bool {
         4 => place_case(cuts::top_level_char(input, b'{'), answer),
         5 => place_case(cuts::split_top_level_once(input), answer),
         6 => place_case(cuts::find_unescaped_quote(input), answer),
-        7 => cut_in(4_097, input, little::prefix(answer, 0), answer, wrong),
+        7 => cut_in(PLACES, input, little::prefix(answer, 0), answer, wrong),
         _ => false,
     }
 }

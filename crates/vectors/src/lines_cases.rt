@@ -2,7 +2,7 @@
 use crate::answers;
 use crate::little;
 use crate::packs;
-use crate::packs::Lent;
+use crate::packs::TableLengths;
 use lines::LineRead;
 
 // 0 and the refusal, or 1 and the pack, or 2 for a blank line.
@@ -14,7 +14,7 @@ fn same_line(read: LineRead, answer: &[u8]) -> bool {
     }
 }
 
-pub fn agrees(lent: Lent, input: &[u8], answer: &[u8], wrong: usize) -> bool {
+pub fn agrees(lent: TableLengths, input: &[u8], answer: &[u8], wrong: usize) -> bool {
     let pack = answers::written(answer);
     let mut kinds = [77u8; packs::KINDS];
     let mut numbers = [77u64; packs::NUMBERS];

@@ -2,7 +2,7 @@
 use crate::answers;
 use crate::little;
 use crate::packs;
-use crate::packs::Lent;
+use crate::packs::TableLengths;
 use listing::Listed;
 
 // 0 and the refusal, or 1 and the listing, or 2 for a blank line.
@@ -17,7 +17,7 @@ fn same_listed(listed: Listed, answer: &[u8]) -> bool {
 }
 
 // The event's number in eight bytes, the length of the output in four, then the line.
-pub fn agrees(lent: Lent, input: &[u8], answer: &[u8], wrong: usize) -> bool {
+pub fn agrees(lent: TableLengths, input: &[u8], answer: &[u8], wrong: usize) -> bool {
     let room = little::four(input, 8) as usize;
     let line = little::behind(input, 12);
     let number = little::eight(input, 0);

@@ -2,7 +2,7 @@
 use crate::answers;
 use crate::little;
 use crate::packs;
-use crate::packs::Lent;
+use crate::packs::TableLengths;
 use logs::Judged;
 
 // 0, the refusal and its line in four bytes, or 1 and the count of events in four bytes.
@@ -16,7 +16,7 @@ fn same_judged(judged: Judged, answer: &[u8]) -> bool {
     }
 }
 
-pub fn agrees(lent: Lent, input: &[u8], answer: &[u8], wrong: usize) -> bool {
+pub fn agrees(lent: TableLengths, input: &[u8], answer: &[u8], wrong: usize) -> bool {
     let none = little::prefix(answer, 0);
     let mut kinds = [77u8; packs::KINDS];
     let mut numbers = [77u64; packs::NUMBERS];

@@ -20,7 +20,7 @@ mod values_cases;
 use crate::input::END;
 use crate::input::read_number;
 use crate::input::read_text;
-use crate::packs::Lent;
+use crate::packs::TableLengths;
 use libc::STDOUT_FILENO;
 
 // A text of a case, and its buffer's length.
@@ -48,10 +48,14 @@ fn asked(group: usize, op: usize, input: &[u8], answer: &[u8], wrong: usize) -> 
         3 => cuts_cases::agrees(op, input, answer, wrong),
         4 => escapes_cases::agrees(op, input, answer, wrong),
         5 => (op == 1) & values_cases::agrees(input, answer),
-        6 => Lent::has(op) & lines_cases::agrees(Lent::by_op(op), input, answer, wrong),
-        7 => Lent::has(op) & logs_cases::agrees(Lent::by_op(op), input, answer, wrong),
-        8 => Lent::has(op) & listings_cases::agrees(Lent::by_op(op), input, answer, wrong),
-        9 => Lent::has(op) & merges_cases::agrees(Lent::by_op(op), input, answer, wrong),
+        6 => TableLengths::has(op)
+            & lines_cases::agrees(TableLengths::by_op(op), input, answer, wrong),
+        7 => TableLengths::has(op)
+            & logs_cases::agrees(TableLengths::by_op(op), input, answer, wrong),
+        8 => TableLengths::has(op)
+            & listings_cases::agrees(TableLengths::by_op(op), input, answer, wrong),
+        9 => TableLengths::has(op)
+            & merges_cases::agrees(TableLengths::by_op(op), input, answer, wrong),
         _ => false,
     }
 }

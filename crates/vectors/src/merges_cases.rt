@@ -3,7 +3,7 @@ use crate::answers;
 use crate::control;
 use crate::little;
 use crate::packs;
-use crate::packs::Lent;
+use crate::packs::TableLengths;
 use merging::Merged;
 
 // How long the output is: longer than any merged log.
@@ -24,7 +24,7 @@ fn same_merged(merged: Merged, answer: &[u8]) -> bool {
 }
 
 // The lengths of the output and of the first log in four bytes each, then both logs.
-pub fn agrees(lent: Lent, input: &[u8], answer: &[u8], wrong: usize) -> bool {
+pub fn agrees(lent: TableLengths, input: &[u8], answer: &[u8], wrong: usize) -> bool {
     let room = little::four(input, 0) as usize;
     let size = little::four(input, 4) as usize;
     let first = little::part(input, 8, size);

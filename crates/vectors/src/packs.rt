@@ -17,41 +17,41 @@ pub const TEXTS: usize = 32_775;
 const TABLE_REFUSED: u64 = 256;
 
 // How many first entries of each table are lent.
-pub struct Lent {
+pub struct TableLengths {
     pub kinds: usize,
     pub numbers: usize,
     pub texts: usize,
 }
 
-impl Lent {
+impl TableLengths {
     pub fn has(op: usize) -> bool {
         (op > 0) & (op < 6)
     }
 
     // Ops 1 to 5: longer than used, just so long as used, and an entry short of one.
-    pub fn by_op(op: usize) -> Lent {
+    pub fn by_op(op: usize) -> TableLengths {
         match op {
-            1 => Lent {
+            1 => TableLengths {
                 kinds: KINDS,
                 numbers: NUMBERS,
                 texts: TEXTS,
             },
-            3 => Lent {
+            3 => TableLengths {
                 kinds: Log::NODES - 1,
                 numbers: Log::NODES,
                 texts: Log::TEXTS,
             },
-            4 => Lent {
+            4 => TableLengths {
                 kinds: Log::NODES,
                 numbers: Log::NODES - 1,
                 texts: Log::TEXTS,
             },
-            5 => Lent {
+            5 => TableLengths {
                 kinds: Log::NODES,
                 numbers: Log::NODES,
                 texts: Log::TEXTS - 1,
             },
-            _ => Lent {
+            _ => TableLengths {
                 kinds: Log::NODES,
                 numbers: Log::NODES,
                 texts: Log::TEXTS,
@@ -67,7 +67,7 @@ pub fn is_pack(answer: &[u8], front: Front) -> bool {
     (little::byte(answer, 0) == 1)
         & (little::four(answer, 1) == (nodes as u64))
         & (little::four(answer, 5) == (count as u64))
-        & (answer.len() == little::along(little::along(9, count), nodes % 65_536 * 9))
+        & (answer.len() == little::along(little::along(9, count), nodes % Log::TEXT_LIMIT * 9))
 }
 
 // Do the tables hold a pack, zeros as far as they are used, and behind that what was lent? Without a pack it is empty.

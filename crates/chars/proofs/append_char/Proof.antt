@@ -9,11 +9,11 @@ use Rattle.chars.proofs.Writing.{encode-1, encode-2, encode-3, encode-4
 use Rattle.chars.proofs.append_char.Statement.{statement}
 use Rattle.chars.proofs.append_char.Tie as tie
 
-put-requires : tie.Need-put-requires
-put-requires c κs = omega (arith, ap length (encode-1 (c .before .before .before .args .c) (c .before .if1 .taken)), c .before .before .before .pre .1)
+append-byte-requires : tie.Need-append-byte-requires
+append-byte-requires c κs = omega (arith, ap length (encode-1 (c .before .before .before .args .c) (c .before .if1 .taken)), c .before .before .before .pre .1)
 
 returns : tie.Need-returns
-returns c = rw (encode-1 (c .before .before .before .before .before .before .args .c) (c .before .before .before .before .if1 .taken)) (c .before .before .put .ensures)
+returns c = rw (encode-1 (c .before .before .before .before .before .before .args .c) (c .before .before .before .before .if1 .taken)) (c .before .before .append-byte .ensures)
 
 append-two-requires : tie.Need-append-two-requires
 append-two-requires c κs = omega (arith, ap length (encode-2 (c .before .before .before .before .args .c) (c .before .before .if1 .left) (c .before .if2 .taken)), c .before .before .before .before .pre .1)
@@ -24,11 +24,11 @@ returns-2 c = rw (encode-2 (c .before .before .before .before .before .before .b
 append-two-requires-2 : tie.Need-append-two-requires-2
 append-two-requires-2 c κs = omega (arith, ap length (encode-3 (c .before .before .before .before .before .args .c) (c .before .before .if2 .left) (c .before .if3 .taken)), c .before .before .before .before .before .pre .1)
 
-put-requires-2 : tie.Need-put-requires-2
-put-requires-2 c κs = omega (arith, ap length (encode-3 (c .before .before .before .before .before .before .before .before .before .args .c) (c .before .before .before .before .before .before .if2 .left) (c .before .before .before .before .before .if3 .taken)), c .before .before .before .before .before .before .before .before .before .pre .1, c .before .before .before .append-two2 .ensures .ends, c .before .before .before .append-two2 .kept .0)
+append-byte-requires-2 : tie.Need-append-byte-requires-2
+append-byte-requires-2 c κs = omega (arith, ap length (encode-3 (c .before .before .before .before .before .before .before .before .before .args .c) (c .before .before .before .before .before .before .if2 .left) (c .before .before .before .before .before .if3 .taken)), c .before .before .before .before .before .before .before .before .before .pre .1, c .before .before .before .append-two2 .ensures .ends, c .before .before .before .append-two2 .kept .0)
 
 returns-3 : tie.Need-returns-3
-returns-3 c = rw (encode-3 (c .before .before .before .before .before .before .before .before .before .before .before .before .args .c) (c .before .before .before .before .before .before .before .before .before .if2 .left) (c .before .before .before .before .before .before .before .before .if3 .taken)) (then (c .before .before .before .before .before .before .append-two2 .ensures) (c .before .before .put2 .ensures))
+returns-3 c = rw (encode-3 (c .before .before .before .before .before .before .before .before .before .before .before .before .args .c) (c .before .before .before .before .before .before .before .before .before .if2 .left) (c .before .before .before .before .before .before .before .before .if3 .taken)) (then (c .before .before .before .before .before .before .append-two2 .ensures) (c .before .before .append-byte2 .ensures))
 
 append-two-requires-3 : tie.Need-append-two-requires-3
 append-two-requires-3 c κs = omega (arith, ap length (encode-4 (c .before .before .before .before .before .args .c) (c .before .if3 .left)), c .before .before .before .before .before .pre .1)
@@ -42,7 +42,7 @@ returns-4 c = rw (encode-4 (c .before .before .before .before .before .before .b
 pub append-char-spec : {M : Type 1} → statement M
 append-char-spec =
     tie.close
-    (tie.spec (λ c. search needs) put-requires (λ c. search needs) returns (λ c. search needs) (λ c. search needs) (λ c. search needs)
+    (tie.spec (λ c. search needs) append-byte-requires (λ c. search needs) returns (λ c. search needs) (λ c. search needs) (λ c. search needs)
     (λ c. search needs) append-two-requires (λ c. search needs) returns-2 (λ c. search needs) (λ c. search needs) (λ c. search needs)
-    (λ c. search needs) append-two-requires-2 put-requires-2 (λ c. search needs) returns-3 (λ c. search needs) (λ c. search needs)
+    (λ c. search needs) append-two-requires-2 append-byte-requires-2 (λ c. search needs) returns-3 (λ c. search needs) (λ c. search needs)
     (λ c. search needs) (λ c. search needs) append-two-requires-3 append-two-requires-4 (λ c. search needs) returns-4)

@@ -25,8 +25,8 @@ returns-2 : tie.Need-returns-2
 returns-2 c =
     let s = now (c .before .before .before .before .before .args .s) in
     let h = c .before .is-past-space .ensures (c .if2 .taken) in
-    let some : 0 < length s = omega (arith, c .before .before .before .if1 .left) in
-    sym (past-not-blank s some (begins-past s some (h .0) (h .1)))
+    let nonempty : 0 < length s = omega (arith, c .before .before .before .if1 .left) in
+    sym (past-not-blank s nonempty (begins-past s nonempty (h .0) (h .1)))
 
 returns-3 : tie.Need-returns-3
 returns-3 c = none-left (c .strip .result .now) ∙ ap empty (c .strip .ensures) ∙ trim-blank _

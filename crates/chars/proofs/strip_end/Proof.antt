@@ -20,7 +20,7 @@ abbrev μ-loop : tie.MeasureT-loop
 
 module _ (t : List ℕ) (n : ℕ) (e : EndsIn t n) (p : n ≡ 0 → ⊥) where
   ends : EndsAt t n
-  ends = e .some (omega arith)
+  ends = e .nonempty (omega arith)
 
   inside : n ≤ length t
   inside = ends .1
@@ -41,7 +41,7 @@ loop-holds c = refl
 returns : tie.Need-returns Inv-loop μ-loop
 returns c =
     let t = c .before .before .loop .t .now in
-    sym (c .before .before .loop .inv ∙ trim-end-stays t (c .before .white-end .ensures .none (c .if1 .taken)))
+    sym (c .before .before .loop .inv ∙ trim-end-stays t (c .before .white-end .ensures .nothing (c .if1 .taken)))
 
 sub-end : tie.Need-sub-end Inv-loop μ-loop
 sub-end c = omega (arith, inside (c .before .before .loop .t .now) (c .before .white-end .result) (c .before .white-end .ensures) (c .if1 .left))

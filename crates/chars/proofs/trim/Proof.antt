@@ -10,7 +10,7 @@ use Rattle.chars.proofs.trim.Tie as tie
 returns : tie.Need-returns
 returns c =
     sym (trim-stays (now (c .before .before .before .before .before .args .s)) (c .before .before .before .begins-past-space .ensures (c .before .before .if1 .taken))
-    (c .before .ends-past-space .ensures (c .if2 .taken) .none refl))
+    (c .before .ends-past-space .ensures (c .if2 .taken) .nothing refl))
 
 pub trim-spec : {M : Type 1} → statement M
 trim-spec =

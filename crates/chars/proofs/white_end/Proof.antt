@@ -8,7 +8,7 @@ use Rattle.chars.proofs.white_end.Statement.{statement}
 use Rattle.chars.proofs.white_end.Tie as tie
 
 returns : tie.Need-returns
-returns c = record { some = λ l. absurd (omega arith); none = λ _ m e. let p = e .0 in let q = e .1 in omega (arith, c .if1 .taken) }
+returns c = record { nonempty = λ l. absurd (omega arith); nothing = λ _ m e. let p = e .0 in let q = e .1 in omega (arith, c .if1 .taken) }
 
 returns-2 : tie.Need-returns-2
 returns-2 c =

@@ -6,45 +6,44 @@ use Prim.Native.Nat.{ℕ, _+_, _-_, _≤_, _<_}
 use native.Mathlib.Omega.{arith}
 use borrow.Author.Needs.{needs}
 use lib.ListN.{length, take, drop, length-set}
-use Rattle.buffers.proofs.Appending.{one}
+use Rattle.buffers.proofs.Appending.{one, Going, going-start, going-by, going-room, going-done}
 use Rattle.chars.specs.Utf8.{encode}
 use Rattle.chars.proofs.Encoding.{is-scalar}
 use Rattle.escapes.specs.Unescape.{escapeAt, unescape}
 use Rattle.escapes.specs.declared.Escape.the-variants.{Char, Verbatim}
 use Rattle.escapes.proofs.Escapes.{held-char}
-use Rattle.escapes.proofs.Progress.{Left, started, onward, finished, room}
 use Rattle.escapes.proofs.Unescaping.{run-at, run-ends, run-moves, short-piece, short-ends, char-at, char-ends, verbatim-run, verbatim-ends, unescape-end}
 use Rattle.escapes.proofs.append_unescaped.Statement.{statement}
 use Rattle.escapes.proofs.append_unescaped.Tie as tie
 
 abbrev Inv-loop : tie.InvT-loop
 Inv-loop out₀ at s end₀ i₀ out end i =
-    (i ≤ length s) × (length out ≡ length out₀) × Left out₀ at (unescape s) out end (unescape (drop i s))
+    (i ≤ length s) × (length out ≡ length out₀) × Going out₀ at out end (unescape (drop i s)) (unescape s)
 
 abbrev μ-loop : tie.MeasureT-loop
 μ-loop out₀ at s end₀ i₀ out end i = length s - i
 
 loop-holds : tie.Need-loop-holds Inv-loop μ-loop
-loop-holds c = (omega arith, refl, started)
+loop-holds c = (omega arith, refl, going-start _ _ _)
 
-sub-copy : tie.Need-sub-copy Inv-loop μ-loop
-sub-copy c = omega (arith, c .before .plain-run .ensures)
+sub-append-bytes : tie.Need-sub-append-bytes Inv-loop μ-loop
+sub-append-bytes c = omega (arith, c .before .plain-run .ensures)
 
-part-copy-start : tie.Need-part-copy-start Inv-loop μ-loop
-part-copy-start c = omega (arith, c .before .plain-run .ensures)
+part-append-bytes-start : tie.Need-part-append-bytes-start Inv-loop μ-loop
+part-append-bytes-start c = omega (arith, c .before .plain-run .ensures)
 
-part-copy-end : tie.Need-part-copy-end Inv-loop μ-loop
-part-copy-end c =
+part-append-bytes-end : tie.Need-part-append-bytes-end Inv-loop μ-loop
+part-append-bytes-end c =
     let l = c .before .before .before .before .before .loop in
     let a = c .before .before .before .before .before .before .before .before .args in
     run-ends (a .s .now) (l .i) (c .before .plain-run .result) (c .before .plain-run .ensures) (l .inv .0)
 
-copy-requires : tie.Need-copy-requires Inv-loop μ-loop
-copy-requires c κs =
+append-bytes-requires : tie.Need-append-bytes-requires Inv-loop μ-loop
+append-bytes-requires c κs =
     let l = c .before .before .before .before .before .before .loop in
     let a = c .before .before .before .before .before .before .before .before .before .args in
     let r = c .before .before .plain-run in
-    room (length (l .out)) (take (r .result - l .i) (drop (l .i) (a .s .now))) (unescape (drop (r .result) (a .s .now))) (run-at (a .s .now) (l .i) (r .result) (r .ensures)) (l .inv .2) (omega (arith, l .inv .1, c .before .before .before .before .before .before .before .before .before .pre))
+    going-room (l .inv .2) (length (l .out)) (take (r .result - l .i) (drop (l .i) (a .s .now))) (unescape (drop (r .result) (a .s .now))) (run-at (a .s .now) (l .i) (r .result) (r .ensures)) (omega (arith, l .inv .1, c .before .before .before .before .before .before .before .before .before .pre))
 
 loop-less : tie.Need-loop-less Inv-loop μ-loop
 loop-less c =
@@ -59,12 +58,11 @@ loop-again c =
     let l = c .before .before .before .before .before .before .before .before .before .loop in
     let a = c .before .before .before .before .before .before .before .before .before .before .before .before .args in
     let r = c .before .before .before .before .before .plain-run in
-    let w = c .before .before .copy in
-    (run-ends (a .s .now) (l .i) (r .result) (r .ensures) (l .inv .0), w .kept .0 ∙ l .inv .1, onward (run-at (a .s .now) (l .i) (r .result) (r .ensures)) (l .inv .2) (w .ensures))
+    let w = c .before .before .append-bytes in
+    (run-ends (a .s .now) (l .i) (r .result) (r .ensures) (l .inv .0), w .kept .0 ∙ l .inv .1, going-by (l .inv .2) (run-at (a .s .now) (l .i) (r .result) (r .ensures)) (w .ensures))
 
 -- in the arm of a short escape: what it stands for, where it ends, and that there is room for it
-short-stands : (c : tie.Then2 Inv-loop μ-loop)
-    → unescape (drop (c .before .before .before .before .before .loop .i) (c .before .before .before .before .before .before .before .before .args .s .now)) ≡ (c .before .short-at .result ∷ []) ++ unescape (drop (c .before .before .before .before .before .loop .i + 2) (c .before .before .before .before .before .before .before .before .args .s .now))
+short-stands : (c : tie.Then2 Inv-loop μ-loop) → unescape (drop (c .before .before .before .before .before .loop .i) (c .before .before .before .before .before .before .before .before .args .s .now)) ≡ (c .before .short-at .result ∷ []) ++ unescape (drop (c .before .before .before .before .before .loop .i + 2) (c .before .before .before .before .before .before .before .before .args .s .now))
 short-stands c = short-piece (c .before .before .before .before .before .before .before .before .args .s .now) (c .before .before .before .before .before .loop .i) (c .before .before .before .before .loop-test .taken) (c .before .before .if1 .left) _ (c .before .short-at .ensures) (c .if2 .taken)
 
 short-inside : (c : tie.Then2 Inv-loop μ-loop) → c .before .before .before .before .before .loop .i + 2 ≤ length (c .before .before .before .before .before .before .before .before .args .s .now)
@@ -74,7 +72,7 @@ short-room : (c : tie.Then2 Inv-loop μ-loop) → c .before .before .before .bef
 short-room c =
     let l = c .before .before .before .before .before .loop in
     let a = c .before .before .before .before .before .before .before .before .args in
-    room (length (l .out)) (c .before .short-at .result ∷ []) (unescape (drop (l .i + 2) (a .s .now))) (short-stands c) (l .inv .2) (omega (arith, l .inv .1, c .before .before .before .before .before .before .before .before .pre))
+    going-room (l .inv .2) (length (l .out)) (c .before .short-at .result ∷ []) (unescape (drop (l .i + 2) (a .s .now))) (short-stands c) (omega (arith, l .inv .1, c .before .before .before .before .before .before .before .before .pre))
 
 slice-write-out : tie.Need-slice-write-out Inv-loop μ-loop
 slice-write-out c = let r = short-room c in omega arith
@@ -92,7 +90,7 @@ loop-again-2 : tie.Need-loop-again-2 Inv-loop μ-loop
 loop-again-2 c =
     let l = c .before .before .before .before .before .loop in
     let r = short-room c in
-    (short-inside c, simp length-set (l .inv .1), onward (short-stands c) (l .inv .2) (one (l .out) (l .end) (c .before .short-at .result) (omega arith)))
+    (short-inside c, simp length-set (l .inv .1), going-by (l .inv .2) (short-stands c) (one (l .out) (l .end) (c .before .short-at .result) (omega arith)))
 
 escape-at-requires : tie.Need-escape-at-requires Inv-loop μ-loop
 escape-at-requires c κs = omega (arith, c .before .before .before .before .loop-test .taken)
@@ -123,7 +121,7 @@ append-char-requires : tie.Need-append-char-requires Inv-loop μ-loop
 append-char-requires c κs =
     let k = c .before in
     let l = k .before .before .before .before .before .before .before .before .before .loop in
-    (is-scalar (code k) (held-char (drop (place k + 1) (text k)) (code k) (count k) (found k) .0) .small, room (length (l .out)) (encode (code k)) (unescape (drop (place k + 1 + count k) (text k))) (stands k) (l .inv .2) (omega (arith, l .inv .1, k .before .before .before .before .before .before .before .before .before .before .before .before .pre)))
+    (is-scalar (code k) (held-char (drop (place k + 1) (text k)) (code k) (count k) (found k) .0) .small, going-room (l .inv .2) (length (l .out)) (encode (code k)) (unescape (drop (place k + 1 + count k) (text k))) (stands k) (omega (arith, l .inv .1, k .before .before .before .before .before .before .before .before .before .before .before .before .pre)))
 
 add-i-2 : tie.Need-add-i-2 Inv-loop μ-loop
 add-i-2 c = let k = c .before .before .before .before in omega (arith, ends k)
@@ -139,7 +137,7 @@ loop-again-3 c =
     let k = c .before .before .before .before in
     let l = k .before .before .before .before .before .before .before .before .before .loop in
     let w = c .before .before .append-char in
-    (ends k, w .kept .0 ∙ l .inv .1, onward (stands k) (l .inv .2) (w .ensures))
+    (ends k, w .kept .0 ∙ l .inv .1, going-by (l .inv .2) (stands k) (w .ensures))
 
 abbrev text2 : tie.After-known-told2 Inv-loop μ-loop → List ℕ
 text2 k = k .before .before .before .before .before .before .before .before .before .before .before .before .args .s .now
@@ -176,21 +174,21 @@ add-plain-run-2 c = omega (arith, ends2 c)
 plain-run-requires-2 : tie.Need-plain-run-requires-2 Inv-loop μ-loop
 plain-run-requires-2 c κs = ends2 c
 
-sub-copy-2 : tie.Need-sub-copy-2 Inv-loop μ-loop
-sub-copy-2 c = omega (arith, stops2 (c .before))
+sub-append-bytes-2 : tie.Need-sub-append-bytes-2 Inv-loop μ-loop
+sub-append-bytes-2 c = omega (arith, stops2 (c .before))
 
-part-copy-start-2 : tie.Need-part-copy-start-2 Inv-loop μ-loop
-part-copy-start-2 c = omega (arith, stops2 (c .before))
+part-append-bytes-start-2 : tie.Need-part-append-bytes-start-2 Inv-loop μ-loop
+part-append-bytes-start-2 c = omega (arith, stops2 (c .before))
 
-part-copy-end-2 : tie.Need-part-copy-end-2 Inv-loop μ-loop
-part-copy-end-2 c = stops2 (c .before) .1
+part-append-bytes-end-2 : tie.Need-part-append-bytes-end-2 Inv-loop μ-loop
+part-append-bytes-end-2 c = stops2 (c .before) .1
 
-copy-requires-2 : tie.Need-copy-requires-2 Inv-loop μ-loop
-copy-requires-2 c κs =
+append-bytes-requires-2 : tie.Need-append-bytes-requires-2 Inv-loop μ-loop
+append-bytes-requires-2 c κs =
     let k = c .before .before in
     let q = k .before in
     let l = q .before .before .before .before .before .before .before .before .before .loop in
-    room (length (l .out)) (take (k .plain-run2 .result - place2 q) (drop (place2 q) (text2 q))) (unescape (drop (k .plain-run2 .result) (text2 q))) (stands2 k) (l .inv .2) (omega (arith, l .inv .1, q .before .before .before .before .before .before .before .before .before .before .before .before .pre))
+    going-room (l .inv .2) (length (l .out)) (take (k .plain-run2 .result - place2 q) (drop (place2 q) (text2 q))) (unescape (drop (k .plain-run2 .result) (text2 q))) (stands2 k) (omega (arith, l .inv .1, q .before .before .before .before .before .before .before .before .before .before .before .before .pre))
 
 loop-less-4 : tie.Need-loop-less-4 Inv-loop μ-loop
 loop-less-4 c = let k = c .before .before .before .before .before in omega (arith, stops2 k, k .before .before .before .before .before .before .before .before .before .loop-test .taken)
@@ -199,8 +197,8 @@ loop-again-4 : tie.Need-loop-again-4 Inv-loop μ-loop
 loop-again-4 c =
     let k = c .before .before .before .before .before in
     let l = k .before .before .before .before .before .before .before .before .before .before .loop in
-    let w = c .before .before .copy2 in
-    (stops2 k .1, w .kept .0 ∙ l .inv .1, onward (stands2 k) (l .inv .2) (w .ensures))
+    let w = c .before .before .append-bytes2 in
+    (stops2 k .1, w .kept .0 ∙ l .inv .1, going-by (l .inv .2) (stands2 k) (w .ensures))
 
 same-length : tie.Need-same-length Inv-loop μ-loop
 same-length c = c .before .loop .inv .1
@@ -209,12 +207,12 @@ returns : tie.Need-returns Inv-loop μ-loop
 returns c =
     let l = c .before .loop in
     let a = c .before .before .before .before .args in
-    finished (rw (unescape-end (a .s .now) (l .i) (c .loop-test .left)) at (l .inv .2))
+    going-done (rw (unescape-end (a .s .now) (l .i) (c .loop-test .left)) at (l .inv .2)) refl
 
 pub append-unescaped-spec : {M : Type 1} → statement M
 append-unescaped-spec =
     tie.close
-    (tie.spec Inv-loop μ-loop loop-holds (λ c. omega arith) (λ c κs. omega arith) sub-copy part-copy-start part-copy-end copy-requires
+    (tie.spec Inv-loop μ-loop loop-holds (λ c. omega arith) (λ c κs. omega arith) sub-append-bytes part-append-bytes-start part-append-bytes-end append-bytes-requires
     loop-less loop-again (λ c. omega arith) (λ c κs. search needs) slice-write-out add-end add-i loop-less-2 loop-again-2 escape-at-requires
     (λ c. search needs) append-char-requires add-i-2 add-i-3 loop-less-3 loop-again-3 (λ c. search needs) add-plain-run add-plain-run-2
-    plain-run-requires-2 sub-copy-2 part-copy-start-2 part-copy-end-2 copy-requires-2 loop-less-4 loop-again-4 same-length returns)
+    plain-run-requires-2 sub-append-bytes-2 part-append-bytes-start-2 part-append-bytes-end-2 append-bytes-requires-2 loop-less-4 loop-again-4 same-length returns)
