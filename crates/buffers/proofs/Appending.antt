@@ -11,8 +11,8 @@ use lib.Seq.{drop-drop, drop-set-lt, take-suc, take-suc-set, take_all, length-ta
 use Rattle.buffers.specs.Wrote.{Wrote}
 
 -- two lists that agree from a place on agree from any later one on
-drop-later : (a b : List ℕ) (m k : ℕ) → drop m a ≡ drop m b → drop (m + k) a ≡ drop (m + k) b
-drop-later a b m k e = sym (drop-drop k m a) ∙ ap (drop k) e ∙ drop-drop k m b
+drop_later : (a b : List ℕ) (m k : ℕ) → drop m a ≡ drop m b → drop (m + k) a ≡ drop (m + k) b
+drop_later a b m k e = sym (drop-drop k m a) ∙ ap (drop k) e ∙ drop-drop k m b
 
 -- ---- texts one after the other
 
@@ -26,7 +26,7 @@ one l i b h = record { stands = rw (add-one i) (take-suc-set l i b h); ends = re
 
 -- what stands behind is still what it was at first
 pub kept_on : {a b : List ℕ} {i n : ℕ} {x : List ℕ} (z : List ℕ) → Wrote a i b n x → drop i a ≡ drop i z → drop n b ≡ drop n z
-kept_on {a} {b} {i} {n} {x} z w e = w.kept ∙ rw w.ends (drop-later a z i (length x) e)
+kept_on {a} {b} {i} {n} {x} z w e = w.kept ∙ rw w.ends (drop_later a z i (length x) e)
 
 -- one text, and then another
 pub then : {a b c : List ℕ} {i m n : ℕ} {x y : List ℕ} → Wrote a i b m x → Wrote b m c n y → Wrote a i c n (x ++ y)
@@ -37,8 +37,8 @@ then {a} {b} {c} {i} {m} {n} {x} {y} p q = record {
 }
 
 -- the whole buffer
-pub wrote-all : {a b : List ℕ} {i n : ℕ} {x : List ℕ} → Wrote a i b n x → b ≡ take i a ++ (x ++ drop n a)
-wrote-all {a} {b} {i} {n} {x} w =
+pub wrote_all : {a b : List ℕ} {i n : ℕ} {x : List ℕ} → Wrote a i b n x → b ≡ take i a ++ (x ++ drop n a)
+wrote_all {a} {b} {i} {n} {x} w =
     sym (take-append-drop n b)
     ∙ ap (λ (l : List ℕ). l ++ drop n b) w.stands
     ∙ ap (λ (l : List ℕ). (take i a ++ x) ++ l) w.kept
@@ -56,8 +56,8 @@ going_start old at whole = record { stands = refl; ends = refl; kept = refl }
 
 module _ {old : List ℕ} {at : ℕ} {a : List ℕ} {i : ℕ} {left whole : List ℕ} (g : Going old at a i left whole) where
   -- a piece goes off the front of what is left
-  pub going-by : {b : List ℕ} {j : ℕ} {x rest : List ℕ} → left ≡ x ++ rest → Wrote a i b j x → Going old at b j rest whole
-  going-by {b} {j} {x} {rest} e w = record {
+  pub going_by : {b : List ℕ} {j : ℕ} {x rest : List ℕ} → left ≡ x ++ rest → Wrote a i b j x → Going old at b j rest whole
+  going_by {b} {j} {x} {rest} e w = record {
     stands =
         ap (λ (l : List ℕ). l ++ rest) w.stands
         ∙ append_assoc (take i a) x rest
@@ -68,8 +68,8 @@ module _ {old : List ℕ} {at : ℕ} {a : List ℕ} {i : ℕ} {left whole : List
   }
 
   -- it has room where the whole has
-  pub going-room : (n : ℕ) (x rest : List ℕ) → left ≡ x ++ rest → at + length whole ≤ n → i + length x ≤ n
-  going-room n x rest e h = omega (arith, g.ends, ap length e, length-append x rest)
+  pub going_room : (n : ℕ) (x rest : List ℕ) → left ≡ x ++ rest → at + length whole ≤ n → i + length x ≤ n
+  going_room n x rest e h = omega (arith, g.ends, ap length e, length-append x rest)
 
   -- nothing is left
   pub going_done : left ≡ [] → Wrote old at a i whole
@@ -80,7 +80,7 @@ module _ {old : List ℕ} {at : ℕ} {a : List ℕ} {i : ℕ} {left whole : List
   }
 
 pub going_on : {old : List ℕ} {at : ℕ} {a b : List ℕ} {i j : ℕ} {x rest whole : List ℕ} → Going old at a i (x ++ rest) whole → Wrote a i b j x → Going old at b j rest whole
-going_on g w = going-by g refl w
+going_on g w = going_by g refl w
 
 -- ---- a copy: t's first `at`, the first i of s, and then what t had
 
@@ -88,20 +88,20 @@ pub record Copied (at i : ℕ) (s t t₀ : List ℕ) : Type 0 where
   pub front : take (at + i) t ≡ take at t₀ ++ take i s
   pub kept : drop (at + i) t ≡ drop (at + i) t₀
 
-pub copy-none : (at : ℕ) (s t : List ℕ) → Copied at 0 s t t
-copy-none at s t = record { front = rw (add-zero, append-nil); kept = refl }
+pub copy_none : (at : ℕ) (s t : List ℕ) → Copied at 0 s t t
+copy_none at s t = record { front = rw (add-zero, append-nil); kept = refl }
 
 pub copy_more : (at i : ℕ) (s t t₀ : List ℕ) → at + i < length t → i < length s → Copied at i s t t₀ → Copied at (i + 1) s (set t (at + i) (get_or s i 0)) t₀
 copy_more at i s t t₀ h hs c = record {
   front = rw (add-one, add-suc, take-suc-set t (at + i) (get_or s i 0), take-suc s i 0, c.front) (append_assoc (take at t₀) (take i s) _);
-  kept = drop-set-lt (at + (i + 1)) t (at + i) (get_or s i 0) (omega arith) ∙ rw (further at i) (drop-later t t₀ (at + i) 1 c.kept);
+  kept = drop-set-lt (at + (i + 1)) t (at + i) (get_or s i 0) (omega arith) ∙ rw (further at i) (drop_later t t₀ (at + i) 1 c.kept);
 }
   where
     further : (at i : ℕ) → at + (i + 1) ≡ at + i + 1
     further at i = omega arith
 
-pub copy-all : (at i : ℕ) (s t t₀ : List ℕ) → i ≡ length s → Copied at i s t t₀ → Wrote t₀ at t (at + i) s
-copy-all at i s t t₀ h c = record {
+pub copy_all : (at i : ℕ) (s t t₀ : List ℕ) → i ≡ length s → Copied at i s t t₀ → Wrote t₀ at t (at + i) s
+copy_all at i s t t₀ h c = record {
   stands = c.front ∙ ap (λ (r : List ℕ). take at t₀ ++ r) (take_all i s (omega arith));
   ends = omega arith;
   kept = c.kept;

@@ -10,9 +10,9 @@ by_cond P true x y f g = f refl
 by_cond P false x y f g = g refl
 
 -- the same where the arms hold without their tests
-pub both-arms : {A : Type 0} (P : A → Type 0) (t : Bool) {x y : A} → P x → P y → P (cond t x y)
-both-arms P true f g = f
-both-arms P false f g = g
+pub both_arms : {A : Type 0} (P : A → Type 0) (t : Bool) {x y : A} → P x → P y → P (cond t x y)
+both_arms P true f g = f
+both_arms P false f g = g
 
 -- a test is true or false
 pub decide : (t : Bool) → (t ≡ true) ⊎ (t ≡ false)
@@ -33,9 +33,9 @@ and_both true b e f = f
 and_both false b e f = e
 
 -- a joined test fails where its second part does
-pub and-false : (a : Bool) → (a && false) ≡ false
-and-false true = refl
-and-false false = refl
+pub and_false : (a : Bool) → (a && false) ≡ false
+and_false true = refl
+and_false false = refl
 
 pub or_cases : (a b : Bool) → (a || b) ≡ true → (a ≡ true) ⊎ (b ≡ true)
 or_cases true b e = inl refl
@@ -50,16 +50,16 @@ pub or_right : (a b : Bool) → b ≡ true → (a || b) ≡ true
 or_right true b e = refl
 or_right false b e = e
 
-pub or-false : (a b : Bool) → a ≡ false → b ≡ false → (a || b) ≡ false
-or-false true b e f = e
-or-false false b e f = f
+pub or_false : (a b : Bool) → a ≡ false → b ≡ false → (a || b) ≡ false
+or_false true b e f = e
+or_false false b e f = f
 
 -- neither part of a failed `or` holds
-pub or-none-left : (a b : Bool) → (a || b) ≡ false → a ≡ false
-or-none-left true b e = e
-or-none-left false b e = refl
+pub or_none_left : (a b : Bool) → (a || b) ≡ false → a ≡ false
+or_none_left true b e = e
+or_none_left false b e = refl
 
-pub or-none-right : (a b : Bool) → (a || b) ≡ false → b ≡ false
-or-none-right true true e = e
-or-none-right true false e = refl
-or-none-right false b e = e
+pub or_none_right : (a b : Bool) → (a || b) ≡ false → b ≡ false
+or_none_right true true e = e
+or_none_right true false e = refl
+or_none_right false b e = e

@@ -11,27 +11,27 @@ use lib.ListN.{length, drop, get_or, drop_of_length-le}
 use lib.Seq.{drop-cons}
 use borrow.Author.Tests.{eq-eqb, ne_eqb, eqb-true}
 use Rattle.buffers.specs.Same.{same}
-use Rattle.buffers.proofs.Choice.{and_left, and_right, and_both, and-false}
+use Rattle.buffers.proofs.Choice.{and_left, and_right, and_both, and_false}
 
 pub same_step : (a b : List ℕ) (i : ℕ) → i < length a → i < length b → get_or a i 0 ≡ get_or b i 0
     → same (drop i a) (drop i b) ≡ same (drop (i + 1) a) (drop (i + 1) b)
 unfolding same
 same_step a b i h g e = rw (add-one, drop-cons a i 0, drop-cons b i 0, eq-eqb _ _ e)
 
-pub same-differ : (a b : List ℕ) (i : ℕ) → i < length a → i < length b → (get_or a i 0 ≡ get_or b i 0 → ⊥) → same (drop i a) (drop i b) ≡ false
+pub same_differ : (a b : List ℕ) (i : ℕ) → i < length a → i < length b → (get_or a i 0 ≡ get_or b i 0 → ⊥) → same (drop i a) (drop i b) ≡ false
 unfolding same
-same-differ a b i h g e = rw (drop-cons a i 0, drop-cons b i 0, ne_eqb _ _ e)
+same_differ a b i h g e = rw (drop-cons a i 0, drop-cons b i 0, ne_eqb _ _ e)
 
 pub same_end : (a b : List ℕ) (i : ℕ) → i ≡ length a → length a ≡ length b → same (drop i a) (drop i b) ≡ true
 unfolding same
 same_end a b i e l = rw (drop_of_length-le a {i = i} (omega arith), drop_of_length-le b {i = i} (omega arith))
 
-pub same-lengths : (a b : List ℕ) → (length a ≡ length b → ⊥) → same a b ≡ false
+pub same_lengths : (a b : List ℕ) → (length a ≡ length b → ⊥) → same a b ≡ false
 unfolding same
-same-lengths [] [] h = absurd (h refl)
-same-lengths [] (y ∷ b) h = refl
-same-lengths (x ∷ a) [] h = refl
-same-lengths (x ∷ a) (y ∷ b) h = rw (same-lengths a b (λ e. h (ap suc e))) (and-false (eqb x y))
+same_lengths [] [] h = absurd (h refl)
+same_lengths [] (y ∷ b) h = refl
+same_lengths (x ∷ a) [] h = refl
+same_lengths (x ∷ a) (y ∷ b) h = rw (same_lengths a b (λ e. h (ap suc e))) (and_false (eqb x y))
 
 pub same_refl : (a : List ℕ) → same a a ≡ true
 unfolding same

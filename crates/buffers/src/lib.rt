@@ -4,7 +4,7 @@
 
 ghost use Rattle.std.specs.Prelude.{◌≡◌, [], ◌∷◌, ◌++◌, ◌+◌, ◌-◌, ◌≤◌, ◌<◌, length, take, replicate};
 ghost use Rattle.buffers.specs.Wrote.{Wrote};
-ghost use Rattle.buffers.specs.Same.{same as sameBytes};
+ghost use Rattle.buffers.specs.Same.{same as same_bytes};
 
 // Appends a byte behind the first `at`. The answer is where the text then ends.
 pub fn append_byte(out: &mut [u8], at: usize, b: u8) -> usize
@@ -30,7 +30,7 @@ pub fn append_bytes(out: &mut [u8], at: usize, s: &[u8]) -> usize
 
 // Are the two texts equal, byte for byte?
 pub fn same(a: &[u8], b: &[u8]) -> bool
-    ensures { result ≡ sameBytes a.now b.now }
+    ensures { result ≡ same_bytes a.now b.now }
 {
     if a.len() != b.len() {
         return false;

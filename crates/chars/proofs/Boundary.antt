@@ -11,27 +11,27 @@ use lib.Dec.{ltb}
 use lib.ListN.{length, get_or, take, drop, take-append-drop}
 use lib.Seq.{get_or-drop}
 use borrow.Author.Tests.{ltb-true, lt-ltb, le-ltb}
-use Rattle.buffers.proofs.Choice.{both-arms, or_cases, or_left, or_right}
-use Rattle.chars.specs.Utf8.{low, high, charOf, charAt, behindChar, utf8From, utf8, starts}
+use Rattle.buffers.proofs.Choice.{both_arms, or_cases, or_left, or_right}
+use Rattle.chars.specs.Utf8.{low, high, char_of, char_at, behind_char, utf8_from, utf8, starts}
 use Rattle.chars.specs.declared.Step.{Step}
 use Rattle.chars.specs.declared.Step.TheVariants.{Char, Bad}
-use Rattle.chars.proofs.Reading.{low-128, high-191, char-whole}
+use Rattle.chars.proofs.Reading.{low_128, high_191, char_whole}
 
-pub starts-cases : (b : ℕ) → starts b ≡ true → (b < 0x80) ⊎ (0xBF < b)
+pub starts_cases : (b : ℕ) → starts b ≡ true → (b < 0x80) ⊎ (0xBF < b)
 unfolding starts
-starts-cases b e = go (or_cases (ltb b 0x80) (ltb 0xBF b) e)
+starts_cases b e = go (or_cases (ltb b 0x80) (ltb 0xBF b) e)
   where
     go : (ltb b 0x80 ≡ true) ⊎ (ltb 0xBF b ≡ true) → (b < 0x80) ⊎ (0xBF < b)
     go (inl p) = inl (ltb-true b 0x80 p)
     go (inr p) = inr (ltb-true 0xBF b p)
 
-pub starts-low : (b : ℕ) → b < 0x80 → starts b ≡ true
+pub starts_low : (b : ℕ) → b < 0x80 → starts b ≡ true
 unfolding starts
-starts-low b h = or_left (ltb b 0x80) (ltb 0xBF b) (lt-ltb b 0x80 h)
+starts_low b h = or_left (ltb b 0x80) (ltb 0xBF b) (lt-ltb b 0x80 h)
 
-pub starts-high : (b : ℕ) → 0xBF < b → starts b ≡ true
+pub starts_high : (b : ℕ) → 0xBF < b → starts b ≡ true
 unfolding starts
-starts-high b h = or_right (ltb b 0x80) (ltb 0xBF b) (lt-ltb 0xBF b h)
+starts_high b h = or_right (ltb b 0x80) (ltb 0xBF b) (lt-ltb 0xBF b h)
 
 -- a byte out of its range ends the reading
 out : (lo hi b : ℕ) (z : Step) → (b < lo) ⊎ (hi < b) → cond (ltb b lo) Bad (cond (ltb hi b) Bad z) ≡ Bad
@@ -43,62 +43,62 @@ out lo hi b z (inr h) = go (ltb b lo)
     go false = rw (lt-ltb hi b h)
 
 beyond : (a b : ℕ) → (b < 0x80) ⊎ (0xBF < b) → (b < low a) ⊎ (high a < b)
-beyond a b (inl h) = inl (omega (arith, low-128 a))
-beyond a b (inr h) = inr (omega (arith, high-191 a))
+beyond a b (inl h) = inl (omega (arith, low_128 a))
+beyond a b (inr h) = inr (omega (arith, high_191 a))
 
 module _ (a b c d : ℕ) where
-  second-off : starts b ≡ true → charOf a b c d ≡ charOf a 0 0 0
-  unfolding charOf
-  second-off h =
-      rw (out (low a) (high a) b _ (beyond a b (starts-cases b h)), out (low a) (high a) 0 _ (beyond a 0 (inl zero-low)))
+  second_off : starts b ≡ true → char_of a b c d ≡ char_of a 0 0 0
+  unfolding char_of
+  second_off h =
+      rw (out (low a) (high a) b _ (beyond a b (starts_cases b h)), out (low a) (high a) 0 _ (beyond a 0 (inl zero_low)))
     where
-      zero-low : 0 < 0x80
-      zero-low = omega arith
+      zero_low : 0 < 0x80
+      zero_low = omega arith
 
-  third-off : starts c ≡ true → charOf a b c d ≡ charOf a b 0 0
-  unfolding charOf
-  third-off h = rw (out 0x80 0xBF c _ (starts-cases c h))
+  third_off : starts c ≡ true → char_of a b c d ≡ char_of a b 0 0
+  unfolding char_of
+  third_off h = rw (out 0x80 0xBF c _ (starts_cases c h))
 
-  fourth-off : starts d ≡ true → charOf a b c d ≡ charOf a b c 0
-  unfolding charOf
-  fourth-off h = rw (out 0x80 0xBF d _ (starts-cases d h))
+  fourth_off : starts d ≡ true → char_of a b c d ≡ char_of a b c 0
+  unfolding char_of
+  fourth_off h = rw (out 0x80 0xBF d _ (starts_cases d h))
 
 -- past ASCII a second byte out of its range leaves no character
-pub second-bad : (a b c d : ℕ) → 0x80 ≤ a → (b < 0x80) ⊎ (0xBF < b) → charOf a b c d ≡ Bad
-unfolding charOf
-second-bad a b c d h o =
+pub second_bad : (a b c d : ℕ) → 0x80 ≤ a → (b < 0x80) ⊎ (0xBF < b) → char_of a b c d ≡ Bad
+unfolding char_of
+second_bad a b c d h o =
     rw (le-ltb a 0x80 h, out (low a) (high a) b _ (beyond a b o))
-    (both-arms (λ (t : Step). t ≡ Bad) (ltb a 0xC2) refl (both-arms (λ (t : Step). t ≡ Bad) (ltb 0xF4 a) refl refl))
+    (both_arms (λ (t : Step). t ≡ Bad) (ltb a 0xC2) refl (both_arms (λ (t : Step). t ≡ Bad) (ltb 0xF4 a) refl refl))
 
 -- what follows does not change the character that a text begins with
-pub char-cut : (x w : List ℕ) → 0 < length x → starts (get_or w 0 0) ≡ true → charAt (x ++ w) ≡ charAt x
-char-cut [] w l h = absurd (omega arith)
-char-cut (a ∷ []) w l h = second-off a (get_or w 0 0) (get_or w 1 0) (get_or w 2 0) h
-char-cut (a ∷ b ∷ []) w l h = third-off a b (get_or w 0 0) (get_or w 1 0) h
-char-cut (a ∷ b ∷ c ∷ []) w l h = fourth-off a b c (get_or w 0 0) h
-char-cut (a ∷ b ∷ c ∷ d ∷ r) w l h = refl
+pub char_cut : (x w : List ℕ) → 0 < length x → starts (get_or w 0 0) ≡ true → char_at (x ++ w) ≡ char_at x
+char_cut [] w l h = absurd (omega arith)
+char_cut (a ∷ []) w l h = second_off a (get_or w 0 0) (get_or w 1 0) (get_or w 2 0) h
+char_cut (a ∷ b ∷ []) w l h = third_off a b (get_or w 0 0) (get_or w 1 0) h
+char_cut (a ∷ b ∷ c ∷ []) w l h = fourth_off a b c (get_or w 0 0) h
+char_cut (a ∷ b ∷ c ∷ d ∷ r) w l h = refl
 
-utf8-from-append : (k : ℕ) (x w : List ℕ) → k ≤ length x → starts (get_or w 0 0) ≡ true → utf8From k (x ++ w) ≡ (utf8From k x && utf8 w)
-unfolding utf8From
-utf8-from-append zero [] w l h = refl
-utf8-from-append (suc k) [] w l h = absurd (omega arith)
-utf8-from-append (suc k) (a ∷ r) w l h = utf8-from-append k r w (omega arith) h
-utf8-from-append zero (a ∷ r) w l h =
-    ap (λ (t : Step). behindChar t (λ k. utf8From k (r ++ w))) (char-cut (a ∷ r) w (omega arith) h)
-    ∙ go (charAt (a ∷ r)) refl (λ k m. utf8-from-append k r w m h)
+utf8_from_append : (k : ℕ) (x w : List ℕ) → k ≤ length x → starts (get_or w 0 0) ≡ true → utf8_from k (x ++ w) ≡ (utf8_from k x && utf8 w)
+unfolding utf8_from
+utf8_from_append zero [] w l h = refl
+utf8_from_append (suc k) [] w l h = absurd (omega arith)
+utf8_from_append (suc k) (a ∷ r) w l h = utf8_from_append k r w (omega arith) h
+utf8_from_append zero (a ∷ r) w l h =
+    ap (λ (t : Step). behind_char t (λ k. utf8_from k (r ++ w))) (char_cut (a ∷ r) w (omega arith) h)
+    ∙ go (char_at (a ∷ r)) refl (λ k m. utf8_from_append k r w m h)
   where
-    go : (t : Step) → charAt (a ∷ r) ≡ t → ((k : ℕ) → k ≤ length r → utf8From k (r ++ w) ≡ (utf8From k r && utf8 w))
-        → behindChar t (λ k. utf8From k (r ++ w)) ≡ (behindChar t (λ k. utf8From k r) && utf8 w)
-    go (Char c n) e ih = ih (n - 1) (omega (arith, char-whole (a ∷ r) c n e))
+    go : (t : Step) → char_at (a ∷ r) ≡ t → ((k : ℕ) → k ≤ length r → utf8_from k (r ++ w) ≡ (utf8_from k r && utf8 w))
+        → behind_char t (λ k. utf8_from k (r ++ w)) ≡ (behind_char t (λ k. utf8_from k r) && utf8 w)
+    go (Char c n) e ih = ih (n - 1) (omega (arith, char_whole (a ∷ r) c n e))
     go Bad e ih = refl
 
 -- two texts, one behind the other
 pub utf8_append : (x w : List ℕ) → starts (get_or w 0 0) ≡ true → utf8 (x ++ w) ≡ (utf8 x && utf8 w)
-utf8_append x w h = utf8-from-append 0 x w (omega arith) h
+utf8_append x w h = utf8_from_append 0 x w (omega arith) h
 
 -- a text cut before a byte that continues nothing, or at its end
-pub utf8-cut : (n : ℕ) (s : List ℕ) → starts (get_or s n 0) ≡ true → utf8 s ≡ (utf8 (take n s) && utf8 (drop n s))
-utf8-cut n s h = sym (ap utf8 (take-append-drop n s)) ∙ utf8_append (take n s) (drop n s) (rw (get_or-drop n s 0 0) at_n)
+pub utf8_cut : (n : ℕ) (s : List ℕ) → starts (get_or s n 0) ≡ true → utf8 s ≡ (utf8 (take n s) && utf8 (drop n s))
+utf8_cut n s h = sym (ap utf8 (take-append-drop n s)) ∙ utf8_append (take n s) (drop n s) (rw (get_or-drop n s 0 0) at_n)
   where
     at_n : starts (get_or s (n + 0) 0) ≡ true
     at_n = rw (native.Mathlib.Nat.add-zero n) h

@@ -12,57 +12,57 @@ use lib.Dec.{ltb, eqb}
 use lib.ListN.{length, get_or, take}
 use borrow.Author.Tests.{ltb-true, ltb-false, lt-ltb, le-ltb, eq-eqb, ne_eqb, eqb-true}
 use Rattle.buffers.proofs.Choice.{by_cond, or_left, or_right, or_cases, and_both, and_left, and_right}
-use Rattle.chars.specs.Utf8.{scalar, low, high, charOf, charAt, encode}
+use Rattle.chars.specs.Utf8.{scalar, low, high, char_of, char_at, encode}
 use Rattle.chars.specs.declared.Step.{Step}
 use Rattle.chars.specs.declared.Step.TheVariants.{Char, Bad}
-use Rattle.chars.proofs.Reading.{low-128, high-191, char-whole}
+use Rattle.chars.proofs.Reading.{low_128, high_191, char_whole}
 
 -- what the bounds on the second byte come to
-low-E0 : (a : ℕ) → a ≡ 0xE0 → low a ≡ 0xA0
+low_e0 : (a : ℕ) → a ≡ 0xE0 → low a ≡ 0xA0
 unfolding low
-low-E0 a e = rw (eq-eqb a 0xE0 e)
+low_e0 a e = rw (eq-eqb a 0xE0 e)
 
-low-F0 : (a : ℕ) → a ≡ 0xF0 → low a ≡ 0x90
+low_f0 : (a : ℕ) → a ≡ 0xF0 → low a ≡ 0x90
 unfolding low
-low-F0 a e = let n : a ≡ 0xE0 → ⊥ = omega arith in rw (ne_eqb a 0xE0 n, eq-eqb a 0xF0 e)
+low_f0 a e = let n : a ≡ 0xE0 → ⊥ = omega arith in rw (ne_eqb a 0xE0 n, eq-eqb a 0xF0 e)
 
-high-ED : (a : ℕ) → a ≡ 0xED → high a ≡ 0x9F
+high_ed : (a : ℕ) → a ≡ 0xED → high a ≡ 0x9F
 unfolding high
-high-ED a e = rw (eq-eqb a 0xED e)
+high_ed a e = rw (eq-eqb a 0xED e)
 
-high-F4 : (a : ℕ) → a ≡ 0xF4 → high a ≡ 0x8F
+high_f4 : (a : ℕ) → a ≡ 0xF4 → high a ≡ 0x8F
 unfolding high
-high-F4 a e = let n : a ≡ 0xED → ⊥ = omega arith in rw (ne_eqb a 0xED n, eq-eqb a 0xF4 e)
+high_f4 a e = let n : a ≡ 0xED → ⊥ = omega arith in rw (ne_eqb a 0xED n, eq-eqb a 0xF4 e)
 
-least-3 : (a b : ℕ) → 0xE0 ≤ a → low a ≤ b → 32 ≤ (a - 0xE0) * 64 + (b - 0x80)
-least-3 a b h l = go (ℕ_discrete a 0xE0)
+least_3 : (a b : ℕ) → 0xE0 ≤ a → low a ≤ b → 32 ≤ (a - 0xE0) * 64 + (b - 0x80)
+least_3 a b h l = go (ℕ_discrete a 0xE0)
   where
     go : Dec (a ≡ 0xE0) → 32 ≤ (a - 0xE0) * 64 + (b - 0x80)
-    go (yes e) = omega (arith, low-E0 a e)
+    go (yes e) = omega (arith, low_e0 a e)
     go (no n) = omega arith
 
-least-4 : (a b : ℕ) → 0xF0 ≤ a → low a ≤ b → 16 ≤ (a - 0xF0) * 64 + (b - 0x80)
-least-4 a b h l = go (ℕ_discrete a 0xF0)
+least_4 : (a b : ℕ) → 0xF0 ≤ a → low a ≤ b → 16 ≤ (a - 0xF0) * 64 + (b - 0x80)
+least_4 a b h l = go (ℕ_discrete a 0xF0)
   where
     go : Dec (a ≡ 0xF0) → 16 ≤ (a - 0xF0) * 64 + (b - 0x80)
-    go (yes e) = omega (arith, low-F0 a e)
+    go (yes e) = omega (arith, low_f0 a e)
     go (no n) = omega arith
 
-most-4 : (a b : ℕ) → 0xF0 ≤ a → a ≤ 0xF4 → b ≤ high a → (a - 0xF0) * 64 + (b - 0x80) < 272
-most-4 a b g h l = go (ℕ_discrete a 0xF4)
+most_4 : (a b : ℕ) → 0xF0 ≤ a → a ≤ 0xF4 → b ≤ high a → (a - 0xF0) * 64 + (b - 0x80) < 272
+most_4 a b g h l = go (ℕ_discrete a 0xF4)
   where
     go : Dec (a ≡ 0xF4) → (a - 0xF0) * 64 + (b - 0x80) < 272
-    go (yes e) = omega (arith, high-F4 a e)
-    go (no n) = omega (arith, high-191 a)
+    go (yes e) = omega (arith, high_f4 a e)
+    go (no n) = omega (arith, high_191 a)
 
 -- no surrogate
-no-surrogate-between : (a b c : ℕ) → 0xE0 ≤ a → a < 0xF0 → 0x80 ≤ b → b ≤ high a → 0x80 ≤ c → c ≤ 0xBF
+no_surrogate_between : (a b c : ℕ) → 0xE0 ≤ a → a < 0xF0 → 0x80 ≤ b → b ≤ high a → 0x80 ≤ c → c ≤ 0xBF
     → ((a - 0xE0) * 4096 + (b - 0x80) * 64 + (c - 0x80) < 0xD800) ⊎ (0xDFFF < (a - 0xE0) * 4096 + (b - 0x80) * 64 + (c - 0x80))
-no-surrogate-between a b c h1 h2 h3 h4 h5 h6 = go (dec_lt a 0xED) (ℕ_discrete a 0xED)
+no_surrogate_between a b c h1 h2 h3 h4 h5 h6 = go (dec_lt a 0xED) (ℕ_discrete a 0xED)
   where
     go : Dec (a < 0xED) → Dec (a ≡ 0xED) → ((a - 0xE0) * 4096 + (b - 0x80) * 64 + (c - 0x80) < 0xD800) ⊎ (0xDFFF < (a - 0xE0) * 4096 + (b - 0x80) * 64 + (c - 0x80))
-    go (yes l) d = inl (omega (arith, high-191 a))
-    go (no l) (yes e) = inl (omega (arith, high-ED a e))
+    go (yes l) d = inl (omega (arith, high_191 a))
+    go (no l) (yes e) = inl (omega (arith, high_ed a e))
     go (no l) (no n) = inr (omega arith)
 
 record Is (a b c d code n : ℕ) : Type 0 where
@@ -94,11 +94,11 @@ three : (a b c d : ℕ) → 0xE0 ≤ a → a < 0xF0 → low a ≤ b → b ≤ hi
     → Is a b c d ((a - 0xE0) * 4096 + (b - 0x80) * 64 + (c - 0x80)) 3
 unfolding encode
 three a b c d h1 h2 h3 h4 h5 h6 =
-    let k = low-128 a in
-    let m = high-191 a in
+    let k = low_128 a in
+    let m = high_191 a in
     let b1 : 0x80 ≤ b = omega arith in
     let b2 : b ≤ 0xBF = omega arith in
-    record { split = no-surrogate-between a b c h1 h2 b1 h4 h5 h6; small = omega arith; bytes = eq b1 b2 (least-3 a b h1 h3) ((a - 0xE0) * 4096 + (b - 0x80) * 64 + (c - 0x80)) refl }
+    record { split = no_surrogate_between a b c h1 h2 b1 h4 h5 h6; small = omega arith; bytes = eq b1 b2 (least_3 a b h1 h3) ((a - 0xE0) * 4096 + (b - 0x80) * 64 + (c - 0x80)) refl }
   where
     eq : 0x80 ≤ b → b ≤ 0xBF → 32 ≤ (a - 0xE0) * 64 + (b - 0x80) → (x : ℕ) → x ≡ (a - 0xE0) * 4096 + (b - 0x80) * 64 + (c - 0x80) → encode x ≡ a ∷ b ∷ c ∷ []
     eq b1 b2 l x e =
@@ -114,12 +114,12 @@ four : (a b c d : ℕ) → 0xF0 ≤ a → a ≤ 0xF4 → low a ≤ b → b ≤ h
     → Is a b c d ((a - 0xF0) * 262144 + (b - 0x80) * 4096 + (c - 0x80) * 64 + (d - 0x80)) 4
 unfolding encode
 four a b c d h1 h2 h3 h4 h5 h6 h7 h8 =
-    let k = low-128 a in
-    let m = high-191 a in
+    let k = low_128 a in
+    let m = high_191 a in
     let b1 : 0x80 ≤ b = omega arith in
     let b2 : b ≤ 0xBF = omega arith in
-    let l = least-4 a b h1 h3 in
-    let t = most-4 a b h1 h2 h4 in
+    let l = least_4 a b h1 h3 in
+    let t = most_4 a b h1 h2 h4 in
     record { split = inr (omega arith); small = omega arith; bytes = eq b1 b2 l t ((a - 0xF0) * 262144 + (b - 0x80) * 4096 + (c - 0x80) * 64 + (d - 0x80)) refl }
   where
     eq : 0x80 ≤ b → b ≤ 0xBF → 16 ≤ (a - 0xF0) * 64 + (b - 0x80) → (a - 0xF0) * 64 + (b - 0x80) < 272
@@ -134,8 +134,8 @@ four a b c d h1 h2 h3 h4 h5 h6 h7 h8 =
         let e4 : 0x80 + x % 64 ≡ d = omega arith in
         rw (le-ltb x 0x80 g0, le-ltb x 0x800 g1, le-ltb x 0x10000 g2, e1, e2, e3, e4)
 
-is : (a b c d : ℕ) → IsStep a b c d (charOf a b c d)
-unfolding charOf
+is : (a b c d : ℕ) → IsStep a b c d (char_of a b c d)
+unfolding char_of
 is a b c d =
     let P = IsStep a b c d in
     by_cond P (ltb a 0x80) _ _ (λ h1. one a b c d (ltb-true _ _ h1)) (λ h1.
@@ -143,7 +143,7 @@ is a b c d =
     by_cond P (ltb 0xF4 a) _ _ (λ h3. tt) (λ h3.
     by_cond P (ltb b (low a)) _ _ (λ h4. tt) (λ h4.
     by_cond P (ltb (high a) b) _ _ (λ h5. tt) (λ h5.
-    by_cond P (ltb a 0xE0) _ _ (λ h6. two a b c d (ltb-false _ _ h2) (ltb-true _ _ h6) (omega (arith, low-128 a, ltb-false b (low a) h4)) (omega (arith, high-191 a, ltb-false (high a) b h5))) (λ h6.
+    by_cond P (ltb a 0xE0) _ _ (λ h6. two a b c d (ltb-false _ _ h2) (ltb-true _ _ h6) (omega (arith, low_128 a, ltb-false b (low a) h4)) (omega (arith, high_191 a, ltb-false (high a) b h5))) (λ h6.
     by_cond P (ltb c 0x80) _ _ (λ h7. tt) (λ h7.
     by_cond P (ltb 0xBF c) _ _ (λ h8. tt) (λ h8.
     by_cond P (ltb a 0xF0) _ _ (λ h9. three a b c d (ltb-false _ _ h6) (ltb-true _ _ h9) (ltb-false _ _ h4) (ltb-false _ _ h5) (ltb-false _ _ h7) (ltb-false _ _ h8)) (λ h9.
@@ -151,71 +151,71 @@ is a b c d =
     by_cond P (ltb 0xBF d) _ _ (λ h11. tt) (λ h11.
     four a b c d (ltb-false _ _ h9) (ltb-false _ _ h3) (ltb-false _ _ h4) (ltb-false _ _ h5) (ltb-false _ _ h7) (ltb-false _ _ h8) (ltb-false _ _ h10) (ltb-false _ _ h11))))))))))))
 
-decoded : (a b c d code n : ℕ) → charOf a b c d ≡ Char code n → Is a b c d code n
+decoded : (a b c d code n : ℕ) → char_of a b c d ≡ Char code n → Is a b c d code n
 decoded a b c d code n e = rw e at (is a b c d)
 
 -- the other way: each form of a scalar value
-pub low-le : (a b : ℕ) → (a ≡ 0xE0 → 0xA0 ≤ b) → (a ≡ 0xF0 → 0x90 ≤ b) → 0x80 ≤ b → low a ≤ b
+pub low_le : (a b : ℕ) → (a ≡ 0xE0 → 0xA0 ≤ b) → (a ≡ 0xF0 → 0x90 ≤ b) → 0x80 ≤ b → low a ≤ b
 unfolding low
-low-le a b f g h = by (eqb a 0xE0) _ _ (λ e. f (eqb-true a 0xE0 e)) (by (eqb a 0xF0) _ _ (λ e. g (eqb-true a 0xF0 e)) h)
+low_le a b f g h = by (eqb a 0xE0) _ _ (λ e. f (eqb-true a 0xE0 e)) (by (eqb a 0xF0) _ _ (λ e. g (eqb-true a 0xF0 e)) h)
   where
     by : (t : Bool) (x y : ℕ) → (t ≡ true → x ≤ b) → y ≤ b → cond t x y ≤ b
     by true x y p q = p refl
     by false x y p q = q
 
-pub le-high : (a b : ℕ) → (a ≡ 0xED → b ≤ 0x9F) → (a ≡ 0xF4 → b ≤ 0x8F) → b ≤ 0xBF → b ≤ high a
+pub le_high : (a b : ℕ) → (a ≡ 0xED → b ≤ 0x9F) → (a ≡ 0xF4 → b ≤ 0x8F) → b ≤ 0xBF → b ≤ high a
 unfolding high
-le-high a b f g h = by (eqb a 0xED) _ _ (λ e. f (eqb-true a 0xED e)) (by (eqb a 0xF4) _ _ (λ e. g (eqb-true a 0xF4 e)) h)
+le_high a b f g h = by (eqb a 0xED) _ _ (λ e. f (eqb-true a 0xED e)) (by (eqb a 0xF4) _ _ (λ e. g (eqb-true a 0xF4 e)) h)
   where
     by : (t : Bool) (x y : ℕ) → (t ≡ true → b ≤ x) → b ≤ y → b ≤ cond t x y
     by true x y p q = p refl
     by false x y p q = q
 
-step-1 : (a b c d : ℕ) → a < 0x80 → charOf a b c d ≡ Char a 1
-unfolding charOf
-step-1 a b c d h = rw (lt-ltb a 0x80 h)
+step_1 : (a b c d : ℕ) → a < 0x80 → char_of a b c d ≡ Char a 1
+unfolding char_of
+step_1 a b c d h = rw (lt-ltb a 0x80 h)
 
-pub step-2 : (a b c d : ℕ) → 0xC2 ≤ a → a < 0xE0 → low a ≤ b → b ≤ high a → charOf a b c d ≡ Char ((a - 0xC0) * 64 + (b - 0x80)) 2
-unfolding charOf
-step-2 a b c d h1 h2 h3 h4 =
+pub step_2 : (a b c d : ℕ) → 0xC2 ≤ a → a < 0xE0 → low a ≤ b → b ≤ high a → char_of a b c d ≡ Char ((a - 0xC0) * 64 + (b - 0x80)) 2
+unfolding char_of
+step_2 a b c d h1 h2 h3 h4 =
     let g1 : 0x80 ≤ a = omega arith in
     let g2 : a ≤ 0xF4 = omega arith in
     rw (le-ltb a 0x80 g1, le-ltb a 0xC2 h1, le-ltb 0xF4 a g2, le-ltb b (low a) h3, le-ltb (high a) b h4, lt-ltb a 0xE0 h2)
 
-step-3 : (a b c d : ℕ) → 0xE0 ≤ a → a < 0xF0 → low a ≤ b → b ≤ high a → 0x80 ≤ c → c ≤ 0xBF
-    → charOf a b c d ≡ Char ((a - 0xE0) * 4096 + (b - 0x80) * 64 + (c - 0x80)) 3
-unfolding charOf
-step-3 a b c d h1 h2 h3 h4 h5 h6 =
+step_3 : (a b c d : ℕ) → 0xE0 ≤ a → a < 0xF0 → low a ≤ b → b ≤ high a → 0x80 ≤ c → c ≤ 0xBF
+    → char_of a b c d ≡ Char ((a - 0xE0) * 4096 + (b - 0x80) * 64 + (c - 0x80)) 3
+unfolding char_of
+step_3 a b c d h1 h2 h3 h4 h5 h6 =
     let g1 : 0x80 ≤ a = omega arith in
     let g2 : 0xC2 ≤ a = omega arith in
     let g3 : a ≤ 0xF4 = omega arith in
     rw (le-ltb a 0x80 g1, le-ltb a 0xC2 g2, le-ltb 0xF4 a g3, le-ltb b (low a) h3, le-ltb (high a) b h4, le-ltb a 0xE0 h1, le-ltb c 0x80 h5, le-ltb 0xBF c h6, lt-ltb a 0xF0 h2)
 
-step-4 : (a b c d : ℕ) → 0xF0 ≤ a → a ≤ 0xF4 → low a ≤ b → b ≤ high a → 0x80 ≤ c → c ≤ 0xBF → 0x80 ≤ d → d ≤ 0xBF
-    → charOf a b c d ≡ Char ((a - 0xF0) * 262144 + (b - 0x80) * 4096 + (c - 0x80) * 64 + (d - 0x80)) 4
-unfolding charOf
-step-4 a b c d h1 h2 h3 h4 h5 h6 h7 h8 =
+step_4 : (a b c d : ℕ) → 0xF0 ≤ a → a ≤ 0xF4 → low a ≤ b → b ≤ high a → 0x80 ≤ c → c ≤ 0xBF → 0x80 ≤ d → d ≤ 0xBF
+    → char_of a b c d ≡ Char ((a - 0xF0) * 262144 + (b - 0x80) * 4096 + (c - 0x80) * 64 + (d - 0x80)) 4
+unfolding char_of
+step_4 a b c d h1 h2 h3 h4 h5 h6 h7 h8 =
     let g1 : 0x80 ≤ a = omega arith in
     let g2 : 0xC2 ≤ a = omega arith in
     let g3 : 0xE0 ≤ a = omega arith in
     rw (le-ltb a 0x80 g1, le-ltb a 0xC2 g2, le-ltb 0xF4 a h2, le-ltb b (low a) h3, le-ltb (high a) b h4, le-ltb a 0xE0 g3, le-ltb c 0x80 h5, le-ltb 0xBF c h6, le-ltb a 0xF0 h1, le-ltb d 0x80 h7, le-ltb 0xBF d h8)
 
-decode-2 : (c x y : ℕ) → 0x80 ≤ c → c < 0x800 → charOf (0xC0 + c / 64) (0x80 + c % 64) x y ≡ Char c 2
-decode-2 c x y h1 h2 =
-    step-2 (0xC0 + c / 64) (0x80 + c % 64) x y (omega arith) (omega arith)
-    (low-le (0xC0 + c / 64) (0x80 + c % 64) (λ e. omega arith) (λ e. omega arith) (omega arith))
-    (le-high (0xC0 + c / 64) (0x80 + c % 64) (λ e. omega arith) (λ e. omega arith) (omega arith))
+decode_2 : (c x y : ℕ) → 0x80 ≤ c → c < 0x800 → char_of (0xC0 + c / 64) (0x80 + c % 64) x y ≡ Char c 2
+decode_2 c x y h1 h2 =
+    step_2 (0xC0 + c / 64) (0x80 + c % 64) x y (omega arith) (omega arith)
+    (low_le (0xC0 + c / 64) (0x80 + c % 64) (λ e. omega arith) (λ e. omega arith) (omega arith))
+    (le_high (0xC0 + c / 64) (0x80 + c % 64) (λ e. omega arith) (λ e. omega arith) (omega arith))
     ∙ ap (λ (v : ℕ). Char v 2) (same c)
   where
     same : (c : ℕ) → (0xC0 + c / 64 - 0xC0) * 64 + (0x80 + c % 64 - 0x80) ≡ c
     same c = omega arith
 
-decode-3 : (c x : ℕ) → 0x800 ≤ c → c < 0x10000 → (c < 0xD800) ⊎ (0xDFFF < c)
-    → charOf (0xE0 + c / 4096) (0x80 + c / 64 % 64) (0x80 + c % 64) x ≡ Char c 3
-decode-3 c x h1 h2 s =
-    step-3 (0xE0 + c / 4096) (0x80 + c / 64 % 64) (0x80 + c % 64) x (omega arith) (omega arith)
-    (low-le (0xE0 + c / 4096) (0x80 + c / 64 % 64) (λ e. omega arith) (λ e. omega arith) (omega arith))
-    (le-high (0xE0 + c / 4096) (0x80 + c / 64 % 64) (no_surrogate s) (λ e. omega arith) (omega arith))
+decode_3 : (c x : ℕ) → 0x800 ≤ c → c < 0x10000 → (c < 0xD800) ⊎ (0xDFFF < c)
+    → char_of (0xE0 + c / 4096) (0x80 + c / 64 % 64) (0x80 + c % 64) x ≡ Char c 3
+decode_3 c x h1 h2 s =
+    step_3 (0xE0 + c / 4096) (0x80 + c / 64 % 64) (0x80 + c % 64) x (omega arith) (omega arith)
+    (low_le (0xE0 + c / 4096) (0x80 + c / 64 % 64) (λ e. omega arith) (λ e. omega arith) (omega arith))
+    (le_high (0xE0 + c / 4096) (0x80 + c / 64 % 64) (no_surrogate s) (λ e. omega arith) (omega arith))
     (omega arith) (omega arith)
     ∙ ap (λ (v : ℕ). Char v 3) (same c)
   where
@@ -226,12 +226,12 @@ decode-3 c x h1 h2 s =
     no_surrogate (inl l) e = omega arith
     no_surrogate (inr l) e = omega arith
 
-decode-4 : (c : ℕ) → 0x10000 ≤ c → c < 0x110000
-    → charOf (0xF0 + c / 262144) (0x80 + c / 4096 % 64) (0x80 + c / 64 % 64) (0x80 + c % 64) ≡ Char c 4
-decode-4 c h1 h2 =
-    step-4 (0xF0 + c / 262144) (0x80 + c / 4096 % 64) (0x80 + c / 64 % 64) (0x80 + c % 64) (omega arith) (omega arith)
-    (low-le (0xF0 + c / 262144) (0x80 + c / 4096 % 64) (λ e. omega arith) (λ e. omega arith) (omega arith))
-    (le-high (0xF0 + c / 262144) (0x80 + c / 4096 % 64) (λ e. omega arith) (λ e. omega arith) (omega arith))
+decode_4 : (c : ℕ) → 0x10000 ≤ c → c < 0x110000
+    → char_of (0xF0 + c / 262144) (0x80 + c / 4096 % 64) (0x80 + c / 64 % 64) (0x80 + c % 64) ≡ Char c 4
+decode_4 c h1 h2 =
+    step_4 (0xF0 + c / 262144) (0x80 + c / 4096 % 64) (0x80 + c / 64 % 64) (0x80 + c % 64) (omega arith) (omega arith)
+    (low_le (0xF0 + c / 262144) (0x80 + c / 4096 % 64) (λ e. omega arith) (λ e. omega arith) (omega arith))
+    (le_high (0xF0 + c / 262144) (0x80 + c / 4096 % 64) (λ e. omega arith) (λ e. omega arith) (omega arith))
     (omega arith) (omega arith) (omega arith) (omega arith)
     ∙ ap (λ (v : ℕ). Char v 4) (same c)
   where
@@ -253,9 +253,9 @@ pub record Scalar (c : ℕ) : Type 0 where
   pub small : c < 0x110000
   pub split : (c < 0xD800) ⊎ (0xDFFF < c)
 
-pub is-scalar : (c : ℕ) → scalar c ≡ true → Scalar c
+pub is_scalar : (c : ℕ) → scalar c ≡ true → Scalar c
 unfolding scalar
-is-scalar c e = go (or_cases (ltb c 0xD800) (ltb 0xDFFF c && ltb c 0x110000) e)
+is_scalar c e = go (or_cases (ltb c 0xD800) (ltb 0xDFFF c && ltb c 0x110000) e)
   where
     go : (ltb c 0xD800 ≡ true) ⊎ ((ltb 0xDFFF c && ltb c 0x110000) ≡ true) → Scalar c
     go (inl p) = let l = ltb-true c 0xD800 p in record { small = omega arith; split = inl l }
@@ -264,10 +264,10 @@ is-scalar c e = go (or_cases (ltb c 0xD800) (ltb 0xDFFF c && ltb c 0x110000) e)
       split = inr (ltb-true 0xDFFF c (and_left (ltb 0xDFFF c) (ltb c 0x110000) p));
     }
 
-pub scalar-true : (c : ℕ) → c < 0x110000 → (c < 0xD800) ⊎ (0xDFFF < c) → scalar c ≡ true
+pub scalar_true : (c : ℕ) → c < 0x110000 → (c < 0xD800) ⊎ (0xDFFF < c) → scalar c ≡ true
 unfolding scalar
-scalar-true c h (inl l) = or_left (ltb c 0xD800) (ltb 0xDFFF c && ltb c 0x110000) (lt-ltb c 0xD800 l)
-scalar-true c h (inr l) =
+scalar_true c h (inl l) = or_left (ltb c 0xD800) (ltb 0xDFFF c && ltb c 0x110000) (lt-ltb c 0xD800 l)
+scalar_true c h (inr l) =
     or_right (ltb c 0xD800) (ltb 0xDFFF c && ltb c 0x110000) (and_both (ltb 0xDFFF c) (ltb c 0x110000) (lt-ltb 0xDFFF c l) (lt-ltb c 0x110000 h))
 
 -- the first n bytes, by position, are the first n bytes of the text
@@ -286,28 +286,28 @@ firsts (suc (suc (suc (suc zero)))) a (x ∷ y ∷ z ∷ r) h l = refl
 firsts (suc (suc (suc (suc (suc n))))) a r h l = absurd (omega arith)
 
 -- decoding then encoding gives the bytes back
-pub decode-encode : (s : List ℕ) (c n : ℕ) → charAt s ≡ Char c n → encode c ≡ take n s
-decode-encode [] c n e = let z : ◌≡◌ {A = ℕ} 0 1 = cc in absurd (omega arith)
-decode-encode (a ∷ r) c n e =
+pub decode_encode : (s : List ℕ) (c n : ℕ) → char_at s ≡ Char c n → encode c ≡ take n s
+decode_encode [] c n e = let z : ◌≡◌ {A = ℕ} 0 1 = cc in absurd (omega arith)
+decode_encode (a ∷ r) c n e =
     (decoded a (get_or r 0 0) (get_or r 1 0) (get_or r 2 0) c n e).bytes
-    ∙ firsts n a r (Rattle.chars.proofs.Reading.read _ _ _ _ c n e).few (char-whole (a ∷ r) c n e)
+    ∙ firsts n a r (Rattle.chars.proofs.Reading.read _ _ _ _ c n e).few (char_whole (a ∷ r) c n e)
 
 -- what is read is a scalar value
-pub decode-scalar : (s : List ℕ) (c n : ℕ) → charAt s ≡ Char c n → scalar c ≡ true
-decode-scalar [] c n e = let z : ◌≡◌ {A = ℕ} 0 1 = cc in absurd (omega arith)
-decode-scalar (a ∷ r) c n e =
+pub decode_scalar : (s : List ℕ) (c n : ℕ) → char_at s ≡ Char c n → scalar c ≡ true
+decode_scalar [] c n e = let z : ◌≡◌ {A = ℕ} 0 1 = cc in absurd (omega arith)
+decode_scalar (a ∷ r) c n e =
     let i = decoded a (get_or r 0 0) (get_or r 1 0) (get_or r 2 0) c n e in
-    scalar-true c i.small i.split
+    scalar_true c i.small i.split
 
 -- encoding then decoding gives the character back
-pub encode-decode : (c : ℕ) (r : List ℕ) → scalar c ≡ true → charAt (encode c ++ r) ≡ Char c (length (encode c))
+pub encode_decode : (c : ℕ) (r : List ℕ) → scalar c ≡ true → char_at (encode c ++ r) ≡ Char c (length (encode c))
 unfolding encode
-encode-decode c r w =
-    let s = is-scalar c w in
-    by_cond Q (ltb c 0x80) _ _ (λ t. step-1 c (get_or r 0 0) (get_or r 1 0) (get_or r 2 0) (ltb-true c 0x80 t)) (λ t.
-    by_cond Q (ltb c 0x800) _ _ (λ u. decode-2 c (get_or r 0 0) (get_or r 1 0) (ltb-false c 0x80 t) (ltb-true c 0x800 u)) (λ u.
-    by_cond Q (ltb c 0x10000) _ _ (λ v. decode-3 c (get_or r 0 0) (ltb-false c 0x800 u) (ltb-true c 0x10000 v) s.split) (λ v.
-    decode-4 c (ltb-false c 0x10000 v) s.small)))
+encode_decode c r w =
+    let s = is_scalar c w in
+    by_cond Q (ltb c 0x80) _ _ (λ t. step_1 c (get_or r 0 0) (get_or r 1 0) (get_or r 2 0) (ltb-true c 0x80 t)) (λ t.
+    by_cond Q (ltb c 0x800) _ _ (λ u. decode_2 c (get_or r 0 0) (get_or r 1 0) (ltb-false c 0x80 t) (ltb-true c 0x800 u)) (λ u.
+    by_cond Q (ltb c 0x10000) _ _ (λ v. decode_3 c (get_or r 0 0) (ltb-false c 0x800 u) (ltb-true c 0x10000 v) s.split) (λ v.
+    decode_4 c (ltb-false c 0x10000 v) s.small)))
   where
     Q : List ℕ → Type 0
-    Q l = charAt (l ++ r) ≡ Char c (length l)
+    Q l = char_at (l ++ r) ≡ Char c (length l)

@@ -9,16 +9,16 @@ use native.Mathlib.Omega.{arith}
 use lib.ListN.{length, get_or, take, drop, length-drop, get_or-eq_default}
 use lib.Seq.{get_or-take, get_or-drop, length-take-le}
 use borrow.Author.Tests.{lt-ltb, le-ltb}
-use Rattle.chars.specs.Utf8.{charOf}
+use Rattle.chars.specs.Utf8.{char_of}
 use Rattle.chars.specs.Post.{Plain, Advances}
 use Rattle.chars.specs.declared.Step.TheVariants.{Bad}
-use Rattle.chars.proofs.Reading.{char-here, advance-char, advance-ascii, advance-stuck}
-use Rattle.chars.proofs.Boundary.{second-bad}
-use Rattle.chars.proofs.Encoding.{low-le, le-high, step-2}
+use Rattle.chars.proofs.Reading.{char_here, advance_char, advance_ascii, advance_stuck}
+use Rattle.chars.proofs.Boundary.{second_bad}
+use Rattle.chars.proofs.Encoding.{low_le, le_high, step_2}
 
 module _ (s : List ℕ) where
-  pub plain-none : (at : ℕ) → Plain s at at
-  plain-none at = record { forward = omega arith; ascii = λ i h l. absurd (omega arith) }
+  pub plain_none : (at : ℕ) → Plain s at at
+  plain_none at = record { forward = omega arith; ascii = λ i h l. absurd (omega arith) }
 
   -- one byte more
   pub plain_more : (at i : ℕ) → Plain s at i → get_or s i 0 ≤ 0x7F → Plain s at (i + 1)
@@ -29,17 +29,17 @@ module _ (s : List ℕ) where
       go k g l (no m) = let e : k ≡ i = omega arith in omega (arith, ap (λ (j : ℕ). get_or s j 0) e)
 
   -- one run behind another
-  pub plain-join : (a b c : ℕ) → Plain s a b → Plain s b c → Plain s a c
-  plain-join a b c p q = record { forward = let f = p.forward in let g = q.forward in omega arith; ascii = λ k g l. go k g l (dec_lt k b) }
+  pub plain_join : (a b c : ℕ) → Plain s a b → Plain s b c → Plain s a c
+  plain_join a b c p q = record { forward = let f = p.forward in let g = q.forward in omega arith; ascii = λ k g l. go k g l (dec_lt k b) }
     where
       go : (k : ℕ) → a ≤ k → k < c → Dec (k < b) → get_or s k 0 < 128
       go k g l (yes m) = p.ascii k g m
       go k g l (no m) = q.ascii k (omega arith) l
 
   -- a block whose greatest byte is ASCII
-  pub plain-block : (at n top : ℕ) → at + n ≤ length s → top ≤ 0x7F
+  pub plain_block : (at n top : ℕ) → at + n ≤ length s → top ≤ 0x7F
       → ((i : ℕ) → i < length (take n (drop at s)) → get_or (take n (drop at s)) i 0 ≤ top) → Plain s at (at + n)
-  plain-block at n top l h f = record { forward = omega arith; ascii = λ k g m. go k g m }
+  plain_block at n top l h f = record { forward = omega arith; ascii = λ k g m. go k g m }
     where
       go : (k : ℕ) → at ≤ k → k < at + n → get_or s k 0 < 128
       go k g m =
@@ -50,32 +50,32 @@ module _ (s : List ℕ) where
           omega (arith, get_or-take n (drop at s) i 0 (omega arith), get_or-drop at s i 0, ap (λ (j : ℕ). get_or s j 0) e)
 
   -- the check passes it
-  pub plain-advances : (at end : ℕ) → at < end → end ≤ length s → Plain s at end → Advances s at (end - at)
-  plain-advances at end h l p =
-      advance-ascii s at (omega arith) (end - at) (omega arith) (omega arith) (λ i m. p.ascii (at + i) (omega arith) (omega arith))
+  pub plain_advances : (at end : ℕ) → at < end → end ≤ length s → Plain s at end → Advances s at (end - at)
+  plain_advances at end h l p =
+      advance_ascii s at (omega arith) (end - at) (omega arith) (omega arith) (λ i m. p.ascii (at + i) (omega arith) (omega arith))
 
 -- ---- characters of two bytes
 
 module _ (s : List ℕ) (at : ℕ) (h : at < length s) (past : 128 ≤ get_or s at 0) where
-  stuck : charOf (get_or s at 0) (get_or s (at + 1) 0) (get_or s (at + 2) 0) (get_or s (at + 3) 0) ≡ Bad → Advances s at 0
-  stuck e = advance-stuck s at h (char-here s at h ∙ e)
+  stuck : char_of (get_or s at 0) (get_or s (at + 1) 0) (get_or s (at + 2) 0) (get_or s (at + 3) 0) ≡ Bad → Advances s at 0
+  stuck e = advance_stuck s at h (char_here s at h ∙ e)
 
-  pub two-first : get_or s at 0 < 0xC2 → Advances s at 0
-  unfolding charOf
-  two-first l = stuck (rw (le-ltb (get_or s at 0) 0x80 past, lt-ltb (get_or s at 0) 0xC2 l))
+  pub two_first : get_or s at 0 < 0xC2 → Advances s at 0
+  unfolding char_of
+  two_first l = stuck (rw (le-ltb (get_or s at 0) 0x80 past, lt-ltb (get_or s at 0) 0xC2 l))
 
-  pub two-short : length s - at < 2 → Advances s at 0
-  two-short l =
+  pub two_short : length s - at < 2 → Advances s at 0
+  two_short l =
       let z : get_or s (at + 1) 0 ≡ 0 = get_or-eq_default s 0 (omega arith) in
-      stuck (second-bad (get_or s at 0) (get_or s (at + 1) 0) _ _ past (inl (omega arith)))
+      stuck (second_bad (get_or s at 0) (get_or s (at + 1) 0) _ _ past (inl (omega arith)))
 
-  pub two-second : (get_or s (at + 1) 0 < 0x80) ⊎ (0xBF < get_or s (at + 1) 0) → Advances s at 0
-  two-second b = stuck (second-bad (get_or s at 0) (get_or s (at + 1) 0) _ _ past b)
+  pub two_second : (get_or s (at + 1) 0 < 0x80) ⊎ (0xBF < get_or s (at + 1) 0) → Advances s at 0
+  two_second b = stuck (second_bad (get_or s at 0) (get_or s (at + 1) 0) _ _ past b)
 
   pub two_good : 0xC2 ≤ get_or s at 0 → get_or s at 0 < 0xE0 → 0x80 ≤ get_or s (at + 1) 0 → get_or s (at + 1) 0 ≤ 0xBF → Advances s at 2
   two_good l m f g =
-      advance-char s at h _ 2
-      (char-here s at h
-      ∙ step-2 (get_or s at 0) (get_or s (at + 1) 0) _ _ l m
-      (low-le (get_or s at 0) (get_or s (at + 1) 0) (λ e. omega arith) (λ e. omega arith) f)
-      (le-high (get_or s at 0) (get_or s (at + 1) 0) (λ e. omega arith) (λ e. omega arith) g))
+      advance_char s at h _ 2
+      (char_here s at h
+      ∙ step_2 (get_or s at 0) (get_or s (at + 1) 0) _ _ l m
+      (low_le (get_or s at 0) (get_or s (at + 1) 0) (λ e. omega arith) (λ e. omega arith) f)
+      (le_high (get_or s at 0) (get_or s (at + 1) 0) (λ e. omega arith) (λ e. omega arith) g))

@@ -8,33 +8,33 @@ use Prim.Native.Nat.{ℕ, zero, suc, ◌-◌}
 use native.Mathlib.Omega.{arith}
 use lib.ListN.{length, drop, take-append-drop}
 use lib.Seq.{drop-append_seam}
-use Rattle.chars.specs.Utf8.{encode, charAt, behindChar, utf8From, utf8}
+use Rattle.chars.specs.Utf8.{encode, char_at, behind_char, utf8_from, utf8}
 use Rattle.chars.specs.Scalars.{Encoded, end, char}
 use Rattle.chars.specs.declared.Step.{Step}
 use Rattle.chars.specs.declared.Step.TheVariants.{Char, Bad}
-use Rattle.chars.proofs.Reading.{nonempty, char-onward}
-use Rattle.chars.proofs.Encoding.{decode-encode, decode-scalar, encode-decode}
+use Rattle.chars.proofs.Reading.{nonempty, char_onward}
+use Rattle.chars.proofs.Encoding.{decode_encode, decode_scalar, encode_decode}
 
-encoded-valid : {s : List ℕ} → Encoded s → utf8 s ≡ true
-unfolding utf8From
-encoded-valid end = refl
-encoded-valid (char c {r} h e) =
-    char-onward (encode c ++ r) c (length (encode c)) (encode-decode c r h) ∙ ap utf8 (drop-append_seam (encode c) r) ∙ encoded-valid e
+encoded_valid : {s : List ℕ} → Encoded s → utf8 s ≡ true
+unfolding utf8_from
+encoded_valid end = refl
+encoded_valid (char c {r} h e) =
+    char_onward (encode c ++ r) c (length (encode c)) (encode_decode c r h) ∙ ap utf8 (drop-append_seam (encode c) r) ∙ encoded_valid e
 
-valid-encoded : (k : ℕ) (s : List ℕ) → utf8From k s ≡ true → Encoded (drop k s)
-unfolding utf8From
-valid-encoded zero [] h = end
-valid-encoded (suc k) [] h = end
-valid-encoded (suc k) (a ∷ r) h = valid-encoded k r h
-valid-encoded zero (a ∷ r) h = go (charAt (a ∷ r)) refl h (λ k. valid-encoded k r)
+valid_encoded : (k : ℕ) (s : List ℕ) → utf8_from k s ≡ true → Encoded (drop k s)
+unfolding utf8_from
+valid_encoded zero [] h = end
+valid_encoded (suc k) [] h = end
+valid_encoded (suc k) (a ∷ r) h = valid_encoded k r h
+valid_encoded zero (a ∷ r) h = go (char_at (a ∷ r)) refl h (λ k. valid_encoded k r)
   where
-    go : (t : Step) → charAt (a ∷ r) ≡ t → behindChar t (λ k. utf8From k r) ≡ true → ((k : ℕ) → utf8From k r ≡ true → Encoded (drop k r)) → Encoded (a ∷ r)
+    go : (t : Step) → char_at (a ∷ r) ≡ t → behind_char t (λ k. utf8_from k r) ≡ true → ((k : ℕ) → utf8_from k r ≡ true → Encoded (drop k r)) → Encoded (a ∷ r)
     go Bad e h rest = absurd (false≢true h)
     go (Char c zero) e h rest = absurd (omega (arith, nonempty (a ∷ r) c zero e))
     go (Char c (suc n)) e h rest =
-        let whole : encode c ++ drop n r ≡ a ∷ r = ap (λ (x : List ℕ). x ++ drop n r) (decode-encode (a ∷ r) c (suc n) e) ∙ take-append-drop (suc n) (a ∷ r) in
+        let whole : encode c ++ drop n r ≡ a ∷ r = ap (λ (x : List ℕ). x ++ drop n r) (decode_encode (a ∷ r) c (suc n) e) ∙ take-append-drop (suc n) (a ∷ r) in
         let tail : Encoded (drop n r) = rw⁻¹ (native.Mathlib.Numerals.sub-one (suc n)) (rest (suc n - 1) h) in
-        rw (← whole) (char c (decode-scalar (a ∷ r) c (suc n) e) tail)
+        rw (← whole) (char c (decode_scalar (a ∷ r) c (suc n) e) tail)
 
-pub utf8-iff : (s : List ℕ) → (utf8 s ≡ true) ↔ Encoded s
-utf8-iff s = (valid-encoded 0 s, encoded-valid)
+pub utf8_iff : (s : List ℕ) → (utf8 s ≡ true) ↔ Encoded s
+utf8_iff s = (valid_encoded 0 s, encoded_valid)

@@ -8,21 +8,21 @@ use borrow.Author.Tests.{lt-ltb, le-ltb}
 use Rattle.chars.specs.Utf8.{encode}
 
 module _ (c : ℕ) where
-  pub encode-1 : c < 0x80 → encode c ≡ c ∷ []
+  pub encode_1 : c < 0x80 → encode c ≡ c ∷ []
   unfolding encode
-  encode-1 h = rw (lt-ltb c 0x80 h)
+  encode_1 h = rw (lt-ltb c 0x80 h)
 
-  pub encode-2 : 0x80 ≤ c → c < 0x800 → encode c ≡ (0xC0 + c / 64) ∷ (0x80 + c % 64) ∷ []
+  pub encode_2 : 0x80 ≤ c → c < 0x800 → encode c ≡ (0xC0 + c / 64) ∷ (0x80 + c % 64) ∷ []
   unfolding encode
-  encode-2 h l = rw (le-ltb c 0x80 h, lt-ltb c 0x800 l)
+  encode_2 h l = rw (le-ltb c 0x80 h, lt-ltb c 0x800 l)
 
-  pub encode-3 : 0x800 ≤ c → c < 0x10000 → encode c ≡ (0xE0 + c / 4096) ∷ (0x80 + c / 64 % 64) ∷ (0x80 + c % 64) ∷ []
+  pub encode_3 : 0x800 ≤ c → c < 0x10000 → encode c ≡ (0xE0 + c / 4096) ∷ (0x80 + c / 64 % 64) ∷ (0x80 + c % 64) ∷ []
   unfolding encode
-  encode-3 h l = let g : 0x80 ≤ c = omega arith in rw (le-ltb c 0x80 g, le-ltb c 0x800 h, lt-ltb c 0x10000 l)
+  encode_3 h l = let g : 0x80 ≤ c = omega arith in rw (le-ltb c 0x80 g, le-ltb c 0x800 h, lt-ltb c 0x10000 l)
 
-  pub encode-4 : 0x10000 ≤ c → encode c ≡ (0xF0 + c / 262144) ∷ (0x80 + c / 4096 % 64) ∷ (0x80 + c / 64 % 64) ∷ (0x80 + c % 64) ∷ []
+  pub encode_4 : 0x10000 ≤ c → encode c ≡ (0xF0 + c / 262144) ∷ (0x80 + c / 4096 % 64) ∷ (0x80 + c / 64 % 64) ∷ (0x80 + c % 64) ∷ []
   unfolding encode
-  encode-4 h =
+  encode_4 h =
       let g : 0x80 ≤ c = omega arith in
       let k : 0x800 ≤ c = omega arith in
       rw (le-ltb c 0x80 g, le-ltb c 0x800 k, le-ltb c 0x10000 h)

@@ -2,8 +2,8 @@
 -- Assumes nothing.
 use Rattle.std.specs.Prelude.{◌≡◌, List, ℕ, ◌+◌, ◌-◌, ◌≤◌, ◌<◌, length, get_or, drop}
 use Prim.Native.Char.{code}
-use Rattle.chars.specs.Utf8.{charAt, utf8}
-use Rattle.chars.specs.White.{whiteAt}
+use Rattle.chars.specs.Utf8.{char_at, utf8}
+use Rattle.chars.specs.White.{white_at}
 use Rattle.chars.specs.declared.Step.TheVariants.{Bad}
 
 -- the bytes from `at` to `end` are ASCII
@@ -16,11 +16,11 @@ pub record Plain (s : List ℕ) (at end : ℕ) : Type 0 where
 pub record Advances (s : List ℕ) (at n : ℕ) : Type 0 where
   pub inside : at + n ≤ length s
   pub onward : utf8 (drop at s) ≡ utf8 (drop (at + n) s)
-  pub stuck : n ≡ 0 → charAt (drop at s) ≡ Bad
+  pub stuck : n ≡ 0 → char_at (drop at s) ≡ Bad
 
 -- a White_Space character of n bytes ends s
 abbrev pub EndsAt : List ℕ → ℕ → Type 0
-EndsAt s n = (0 < n) × (n ≤ length s) × (whiteAt (drop (length s - n) s) ≡ n)
+EndsAt s n = (0 < n) × (n ≤ length s) × (white_at (drop (length s - n) s) ≡ n)
 
 -- the last n bytes of s are a White_Space character, or n is 0 and s ends in none
 pub record EndsIn (s : List ℕ) (n : ℕ) : Type 0 where

@@ -16,8 +16,8 @@ unfoldable pub high : ℕ → ℕ
 high a = cond (eqb a 0xED) 0x9F (cond (eqb a 0xF4) 0x8F 0xBF)
 
 -- the character of two to four bytes whose first two are right, and how many bytes it takes
-abbrev pub longOf : ℕ → ℕ → ℕ → ℕ → Step
-longOf a b c d =
+abbrev pub long_of : ℕ → ℕ → ℕ → ℕ → Step
+long_of a b c d =
     cond (ltb a 0xE0) (Char ((a - 0xC0) * 64 + (b - 0x80)) 2)
     (cond (ltb c 0x80) Bad
     (cond (ltb 0xBF c) Bad
@@ -27,32 +27,32 @@ longOf a b c d =
     (Char ((a - 0xF0) * 262144 + (b - 0x80) * 4096 + (c - 0x80) * 64 + (d - 0x80)) 4))))))
 
 -- the character that the bytes a b c d begin with
-unfoldable pub charOf : ℕ → ℕ → ℕ → ℕ → Step
-charOf a b c d =
+unfoldable pub char_of : ℕ → ℕ → ℕ → ℕ → Step
+char_of a b c d =
     cond (ltb a 0x80) (Char a 1)
     (cond (ltb a 0xC2) Bad
     (cond (ltb 0xF4 a) Bad
     (cond (ltb b (low a)) Bad
-    (cond (ltb (high a) b) Bad (longOf a b c d)))))
+    (cond (ltb (high a) b) Bad (long_of a b c d)))))
 
 -- the character that a text begins with; past its end stand zeros, which continue nothing
-abbrev pub charAt : List ℕ → Step
-charAt [] = Bad
-charAt (a ∷ r) = charOf a (get_or r 0 0) (get_or r 1 0) (get_or r 2 0)
+abbrev pub char_at : List ℕ → Step
+char_at [] = Bad
+char_at (a ∷ r) = char_of a (get_or r 0 0) (get_or r 1 0) (get_or r 2 0)
 
 -- go on behind the character that was read, past so many bytes more
-abbrev pub behindChar : Step → (ℕ → Bool) → Bool
-behindChar (Char c n) f = f (n - 1)
-behindChar Bad f = false
+abbrev pub behind_char : Step → (ℕ → Bool) → Bool
+behind_char (Char c n) f = f (n - 1)
+behind_char Bad f = false
 
 -- the text is UTF-8 behind its first k bytes, which are the rest of a character
-unfoldable pub utf8From : ℕ → List ℕ → Bool
-utf8From k [] = true
-utf8From (suc k) (a ∷ r) = utf8From k r
-utf8From zero (a ∷ r) = behindChar (charAt (a ∷ r)) (λ k. utf8From k r)
+unfoldable pub utf8_from : ℕ → List ℕ → Bool
+utf8_from k [] = true
+utf8_from (suc k) (a ∷ r) = utf8_from k r
+utf8_from zero (a ∷ r) = behind_char (char_at (a ∷ r)) (λ k. utf8_from k r)
 
 abbrev pub utf8 : List ℕ → Bool
-utf8 s = utf8From 0 s
+utf8 s = utf8_from 0 s
 
 -- the bytes of the character c
 unfoldable pub encode : ℕ → List ℕ

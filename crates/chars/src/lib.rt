@@ -4,8 +4,8 @@
 
 ghost use Rattle.std.specs.Prelude.{◌≡◌, true, [], ◌∷◌, ℕ, ◌+◌, ◌-◌, ◌≤◌, ◌<◌, length, get_or, drop};
 ghost use Rattle.buffers.specs.Wrote.{Wrote};
-ghost use Rattle.chars.specs.Utf8.{low as low_of, high as high_of, longOf, charOf, charAt, utf8, encode};
-ghost use Rattle.chars.specs.White.{within, white, wideWhite, whiteAt, trimStart, trimEnd, trim as trimmed, blank};
+ghost use Rattle.chars.specs.Utf8.{low as low_of, high as high_of, long_of, char_of, char_at, utf8, encode};
+ghost use Rattle.chars.specs.White.{within, white, wide_white, white_at, trim_start, trim_end, trim as trimmed, blank};
 ghost use Rattle.chars.specs.Post.{Plain, Advances, EndsIn, Spaces};
 
 // What a text begins with.
@@ -55,7 +55,7 @@ fn high(a: u32) -> u32
 // The character of two to four bytes whose first two are right.
 fn long_char(a: u32, b: u32, c: u32, d: u32) -> Step
     requires { (0xC2 ≤ a) × (a < 256) × (128 ≤ b) × (b < 256) × (c < 256) × (d < 256) }
-    ensures { result ≡ longOf a b c d }
+    ensures { result ≡ long_of a b c d }
 {
     if a < 0xe0 {
         return Step::Char((a - 0xc0) * 64 + (b - 0x80), 2);
@@ -84,7 +84,7 @@ fn long_char(a: u32, b: u32, c: u32, d: u32) -> Step
 // The character that four bytes begin with.
 fn char_of(a: u32, b: u32, c: u32, d: u32) -> Step
     requires { (a < 256) × (b < 256) × (c < 256) × (d < 256) }
-    ensures { result ≡ charOf a b c d }
+    ensures { result ≡ char_of a b c d }
 {
     if a < 0x80 {
         return Step::Char(a, 1);
@@ -108,7 +108,7 @@ fn char_of(a: u32, b: u32, c: u32, d: u32) -> Step
 
 // The character at a place.
 pub fn decode_char(s: &[u8], at: usize) -> Step
-    ensures { result ≡ charAt (drop at s.now) }
+    ensures { result ≡ char_at (drop at s.now) }
 {
     if s.len() <= at {
         return Step::Bad;
@@ -317,7 +317,7 @@ fn is_white(c: u32) -> bool
 
 // The same of a code point that is not ASCII.
 fn is_wide_white(c: u32) -> bool
-    ensures { result ≡ wideWhite c }
+    ensures { result ≡ wide_white c }
 {
     if c == 0x85 {
         return true;
@@ -359,7 +359,7 @@ fn is_past_space(b: u8) -> bool
 // How many bytes the White_Space character takes that the text begins with; 0 where it begins with none. A space, and
 // what comes behind it in ASCII, is decided in place.
 pub fn white_width(s: &[u8]) -> usize
-    ensures value { result ≡ whiteAt s.now }
+    ensures value { result ≡ white_at s.now }
     ensures upper_bound { result ≤ length s.now }
 {
     if s.len() == 0 {
@@ -377,7 +377,7 @@ pub fn white_width(s: &[u8]) -> usize
 
 // The same, by decoding the character.
 fn wide_width(s: &[u8]) -> usize
-    ensures value { result ≡ whiteAt s.now }
+    ensures value { result ≡ white_at s.now }
     ensures upper_bound { result ≤ length s.now }
 {
     match decode_char(s, 0) {
@@ -439,7 +439,7 @@ fn wide_end(s: &[u8]) -> usize
 
 // Does s begin with a byte past the space?
 fn begins_past_space(s: &[u8]) -> bool
-    ensures { result ≡ true → whiteAt s.now ≡ 0 }
+    ensures { result ≡ true → white_at s.now ≡ 0 }
 {
     if s.len() == 0 {
         return false;
@@ -460,7 +460,7 @@ fn ends_past_space(s: &[u8]) -> bool
 
 // Does s begin with one space and a byte past it?
 fn begins_with_one(s: &[u8]) -> bool
-    ensures { result ≡ true → (1 ≤ length s.now) × (trimStart s.now ≡ drop 1 s.now) }
+    ensures { result ≡ true → (1 ≤ length s.now) × (trim_start s.now ≡ drop 1 s.now) }
 {
     if s.len() < 2 {
         return false;
@@ -517,7 +517,7 @@ fn spaces_end(s: &[u8]) -> usize
 
 // Without the White_Space at the start, character by character behind the spaces.
 fn strip_start(s: &[u8]) -> &[u8]
-    ensures { result.now ≡ trimStart s.now }
+    ensures { result.now ≡ trim_start s.now }
 {
     let at = spaces_end(s);
     let mut t = &s[at..];
@@ -532,7 +532,7 @@ fn strip_start(s: &[u8]) -> &[u8]
 
 // Without the White_Space at the end, character by character.
 fn strip_end(s: &[u8]) -> &[u8]
-    ensures { result.now ≡ trimEnd s.now }
+    ensures { result.now ≡ trim_end s.now }
 {
     let mut t = s;
     loop {
@@ -554,7 +554,7 @@ fn strip(s: &[u8]) -> &[u8]
 
 // Without the White_Space at the start. Most texts begin with none, or with one space: these are answered in place.
 pub fn trim_start(s: &[u8]) -> &[u8]
-    ensures { result.now ≡ trimStart s.now }
+    ensures { result.now ≡ trim_start s.now }
 {
     if begins_past_space(s) {
         return s;
@@ -567,7 +567,7 @@ pub fn trim_start(s: &[u8]) -> &[u8]
 
 // Without the White_Space at the end.
 pub fn trim_end(s: &[u8]) -> &[u8]
-    ensures { result.now ≡ trimEnd s.now }
+    ensures { result.now ≡ trim_end s.now }
 {
     if ends_past_space(s) {
         return s;

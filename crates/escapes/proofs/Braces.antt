@@ -13,35 +13,35 @@ use lib.ListN.{length, get_or, drop, drop_of_length-le}
 use lib.Seq.{drop-cons}
 use borrow.Author.Tests.{ne_eqb, lt-ltb, le-ltb}
 use Rattle.chars.specs.Utf8.{scalar}
-use Rattle.escapes.specs.Unescape.{hexDigit, digitThen, digitsFrom, hexNumber, withoutUnderscore, ifScalar, named, ontoBody, braced, charOr, unicodeOf}
-use Rattle.escapes.specs.Walk.{bracesOf, braces, unnamed, moreDigits, numbered}
+use Rattle.escapes.specs.Unescape.{hex_digit, digit_then, digits_from, hex_number, without_underscore, if_scalar, named, onto_body, braced, char_or, unicode_of}
+use Rattle.escapes.specs.Walk.{braces_of, braces, unnamed, more_digits, numbered}
 use Rattle.escapes.specs.declared.Escape.TheVariants.{Verbatim}
 
 abbrev pub BodyReads : Type 0
 BodyReads = List ℕ → Option ℕ
 
 -- the braces as the definition has them
-pub braces-named : (r : List ℕ) → braces named 2 r ≡ unicodeOf r (braced r)
+pub braces_named : (r : List ℕ) → braces named 2 r ≡ unicode_of r (braced r)
 unfolding braces
-braces-named r = go (braced r)
+braces_named r = go (braced r)
   where
-    go : (o : Option (List ℕ)) → bracesOf named 2 r o ≡ unicodeOf r o
+    go : (o : Option (List ℕ)) → braces_of named 2 r o ≡ unicode_of r o
     go (some body) = refl
     go none = refl
 
 -- a byte that is no } is read
-pub braces-next : (f g : BodyReads) (n b : ℕ) (r : List ℕ) → (b ≡ code "}" → ⊥) → ((h : List ℕ) → f (b ∷ h) ≡ g h) → braces f n (b ∷ r) ≡ braces g (n + 1) r
+pub braces_next : (f g : BodyReads) (n b : ℕ) (r : List ℕ) → (b ≡ code "}" → ⊥) → ((h : List ℕ) → f (b ∷ h) ≡ g h) → braces f n (b ∷ r) ≡ braces g (n + 1) r
 unfolding braces braced
-braces-next f g n b r h e = rw (ne_eqb b (code "}") h) (go (braced r))
+braces_next f g n b r h e = rw (ne_eqb b (code "}") h) (go (braced r))
   where
     along : (k : ℕ) → n + suc k ≡ n + 1 + k
     along k = omega arith
 
-    go : (o : Option (List ℕ)) → bracesOf f n (b ∷ r) (ontoBody b o) ≡ bracesOf g (n + 1) r o
-    go (some body) = ap₂ charOr (e body) (along (suc (length body)))
+    go : (o : Option (List ℕ)) → braces_of f n (b ∷ r) (onto_body b o) ≡ braces_of g (n + 1) r o
+    go (some body) = ap₂ char_or (e body) (along (suc (length body)))
     go none = ap Verbatim (along (length r))
 
-pub close : (f : BodyReads) (n : ℕ) (r : List ℕ) → braces f n (code "}" ∷ r) ≡ charOr (f []) (n + 1)
+pub close : (f : BodyReads) (n : ℕ) (r : List ℕ) → braces f n (code "}" ∷ r) ≡ char_or (f []) (n + 1)
 unfolding braces braced
 close f n r = refl
 
@@ -50,101 +50,101 @@ pub same_first : (f g : BodyReads) (n b : ℕ) (r : List ℕ) → f [] ≡ g [] 
 unfolding braces braced
 same_first f g n b r e e' = go (eqb b (code "}")) (braced r)
   where
-    go : (t : Bool) (o : Option (List ℕ)) → bracesOf f n (b ∷ r) (cond t (some []) (ontoBody b o)) ≡ bracesOf g n (b ∷ r) (cond t (some []) (ontoBody b o))
-    go true o = ap (λ (v : Option ℕ). charOr v (n + 1)) e
-    go false (some body) = ap (λ (v : Option ℕ). charOr v (n + suc (suc (length body)))) (e' body)
+    go : (t : Bool) (o : Option (List ℕ)) → braces_of f n (b ∷ r) (cond t (some []) (onto_body b o)) ≡ braces_of g n (b ∷ r) (cond t (some []) (onto_body b o))
+    go true o = ap (λ (v : Option ℕ). char_or v (n + 1)) e
+    go false (some body) = ap (λ (v : Option ℕ). char_or v (n + suc (suc (length body)))) (e' body)
     go false none = refl
 
 -- the same at a place of the text
 module _ (s : List ℕ) (i n : ℕ) where
-  pub next-at : (f g : BodyReads) → i < length s → (get_or s i 0 ≡ code "}" → ⊥) → ((h : List ℕ) → f (get_or s i 0 ∷ h) ≡ g h)
+  pub next_digit_at : (f g : BodyReads) → i < length s → (get_or s i 0 ≡ code "}" → ⊥) → ((h : List ℕ) → f (get_or s i 0 ∷ h) ≡ g h)
       → braces f n (drop i s) ≡ braces g (n + 1) (drop (i + 1) s)
-  next-at f g h b e = rw (add-one i, drop-cons s i 0 h) (braces-next f g n (get_or s i 0) (drop (suc i) s) b e)
+  next_digit_at f g h b e = rw (add-one i, drop-cons s i 0 h) (braces_next f g n (get_or s i 0) (drop (suc i) s) b e)
 
-  pub close_at : (f : BodyReads) → i < length s → get_or s i 0 ≡ code "}" → braces f n (drop i s) ≡ charOr (f []) (n + 1)
+  pub close_at : (f : BodyReads) → i < length s → get_or s i 0 ≡ code "}" → braces f n (drop i s) ≡ char_or (f []) (n + 1)
   close_at f h e = rw (drop-cons s i 0 h, e) (close f n (drop (suc i) s))
 
   -- what is no name with this byte is none with any that follow
-  pub no-name-at : (f : BodyReads) → i < length s → (get_or s i 0 ≡ code "}" → ⊥) → ((h : List ℕ) → f (get_or s i 0 ∷ h) ≡ none)
+  pub no_name_at : (f : BodyReads) → i < length s → (get_or s i 0 ≡ code "}" → ⊥) → ((h : List ℕ) → f (get_or s i 0 ∷ h) ≡ none)
       → braces f n (drop i s) ≡ braces unnamed n (drop i s)
-  no-name-at f h b e = next-at f unnamed h b e ∙ sym (next-at unnamed unnamed h b (λ h. refl))
+  no_name_at f h b e = next_digit_at f unnamed h b e ∙ sym (next_digit_at unnamed unnamed h b (λ h. refl))
 
-  pub end-at : (f : BodyReads) → length s ≤ i → braces f n (drop i s) ≡ Verbatim n
+  pub end_at : (f : BodyReads) → length s ≤ i → braces f n (drop i s) ≡ Verbatim n
   unfolding braces braced
-  end-at f h = rw (drop_of_length-le s h) (ap Verbatim (none_left n))
+  end_at f h = rw (drop_of_length-le s h) (ap Verbatim (none_left n))
     where
       none_left : (n : ℕ) → n + 0 ≡ n
       none_left n = omega arith
 
 -- the digits end at the }
-pub close-seen : (t : Bool) (v n : ℕ) → t ≡ true → charOr (numbered t v []) n ≡ charOr (ifScalar (some v)) n
-unfolding numbered withoutUnderscore digitsFrom
-close-seen t v n e = rw e
+pub close_seen : (t : Bool) (v n : ℕ) → t ≡ true → char_or (numbered t v []) n ≡ char_or (if_scalar (some v)) n
+unfolding numbered without_underscore digits_from
+close_seen t v n e = rw e
 
-pub close-unseen : (t : Bool) (v n : ℕ) → t ≡ false → charOr (numbered t v []) n ≡ Verbatim n
-unfolding numbered withoutUnderscore
-close-unseen t v n e = rw e
+pub close_unseen : (t : Bool) (v n : ℕ) → t ≡ false → char_or (numbered t v []) n ≡ Verbatim n
+unfolding numbered without_underscore
+close_unseen t v n e = rw e
 
 -- what a byte makes of the digits still to be read
 module _ (b : ℕ) where
-  no-underscore : {v : ℕ} → hexDigit b ≡ some v → b ≡ code "_" → ⊥
-  unfolding hexDigit
-  no-underscore {v} h e = let z : ◌≡◌ {A = ℕ} 0 1 = cc in omega arith
+  no_underscore : {v : ℕ} → hex_digit b ≡ some v → b ≡ code "_" → ⊥
+  unfolding hex_digit
+  no_underscore {v} h e = let z : ◌≡◌ {A = ℕ} 0 1 = cc in omega arith
 
-  pub digit : (t : Bool) (v d : ℕ) → hexDigit b ≡ some d → (h : List ℕ) → numbered t v (b ∷ h) ≡ numbered true (v * 16 + d) h
-  unfolding numbered withoutUnderscore digitsFrom
-  digit true v d e h = rw (ne_eqb b (code "_") (no-underscore e), e)
-  digit false v d e h = rw (ne_eqb b (code "_") (no-underscore e), e)
+  pub digit : (t : Bool) (v d : ℕ) → hex_digit b ≡ some d → (h : List ℕ) → numbered t v (b ∷ h) ≡ numbered true (v * 16 + d) h
+  unfolding numbered without_underscore digits_from
+  digit true v d e h = rw (ne_eqb b (code "_") (no_underscore e), e)
+  digit false v d e h = rw (ne_eqb b (code "_") (no_underscore e), e)
 
   pub underscore : (t : Bool) (v : ℕ) → b ≡ code "_" → (h : List ℕ) → numbered t v (b ∷ h) ≡ numbered t v h
-  unfolding numbered withoutUnderscore
+  unfolding numbered without_underscore
   underscore t v e h = rw e
 
-  pub no_digit : (t : Bool) (v : ℕ) → (b ≡ code "_" → ⊥) → hexDigit b ≡ none → (h : List ℕ) → numbered t v (b ∷ h) ≡ none
-  unfolding numbered withoutUnderscore digitsFrom
+  pub no_digit : (t : Bool) (v : ℕ) → (b ≡ code "_" → ⊥) → hex_digit b ≡ none → (h : List ℕ) → numbered t v (b ∷ h) ≡ none
+  unfolding numbered without_underscore digits_from
   no_digit true v n e h = rw (ne_eqb b (code "_") n, e)
   no_digit false v n e h = rw (ne_eqb b (code "_") n, e)
 
   -- the first byte: _ names nothing, + is passed over, and any other is read as a digit
-  pub first-underscore : b ≡ code "_" → (h : List ℕ) → named (b ∷ h) ≡ none
+  pub first_underscore : b ≡ code "_" → (h : List ℕ) → named (b ∷ h) ≡ none
   unfolding named
-  first-underscore e h = rw e
+  first_underscore e h = rw e
 
-  pub first-plus : b ≡ code "+" → (h : List ℕ) → named (b ∷ h) ≡ numbered false 0 h
-  unfolding named numbered withoutUnderscore
-  first-plus e h = rw e (ap ifScalar (go (withoutUnderscore h)))
+  pub first_plus : b ≡ code "+" → (h : List ℕ) → named (b ∷ h) ≡ numbered false 0 h
+  unfolding named numbered without_underscore
+  first_plus e h = rw e (ap if_scalar (go (without_underscore h)))
     where
-      go : (l : List ℕ) → hexNumber l ≡ moreDigits false 0 l
+      go : (l : List ℕ) → hex_number l ≡ more_digits false 0 l
       go [] = refl
       go (x ∷ l) = refl
 
-  pub first-other : (b ≡ code "_" → ⊥) → (b ≡ code "+" → ⊥) → (h : List ℕ) → named (b ∷ h) ≡ numbered false 0 (b ∷ h)
-  unfolding named numbered withoutUnderscore
-  first-other n p h = rw (ne_eqb b (code "_") n, ne_eqb b (code "+") p)
+  pub first_other : (b ≡ code "_" → ⊥) → (b ≡ code "+" → ⊥) → (h : List ℕ) → named (b ∷ h) ≡ numbered false 0 (b ∷ h)
+  unfolding named numbered without_underscore
+  first_other n p h = rw (ne_eqb b (code "_") n, ne_eqb b (code "+") p)
 
-pub first-at : (s : List ℕ) (i n : ℕ) → i < length s → (get_or s i 0 ≡ code "_" → ⊥) → (get_or s i 0 ≡ code "+" → ⊥)
+pub first_at : (s : List ℕ) (i n : ℕ) → i < length s → (get_or s i 0 ≡ code "_" → ⊥) → (get_or s i 0 ≡ code "+" → ⊥)
     → braces named n (drop i s) ≡ braces (numbered false 0) n (drop i s)
-unfolding named numbered withoutUnderscore
-first-at s i n h u p =
-    rw (drop-cons s i 0 h) (same_first named (numbered false 0) n (get_or s i 0) (drop (suc i) s) refl (first-other (get_or s i 0) u p))
+unfolding named numbered without_underscore
+first_at s i n h u p =
+    rw (drop-cons s i 0 h) (same_first named (numbered false 0) n (get_or s i 0) (drop (suc i) s) refl (first_other (get_or s i 0) u p))
 
 -- a number that is too large stays so
-no-scalar : (v : ℕ) → 0x110000 ≤ v → scalar v ≡ false
+no_scalar : (v : ℕ) → 0x110000 ≤ v → scalar v ≡ false
 unfolding scalar
-no-scalar v h =
+no_scalar v h =
     let a : 0xD800 ≤ v = omega arith in
     let b : 0xDFFF < v = omega arith in
     rw (le-ltb v 0xD800 a, lt-ltb 0xDFFF v b, le-ltb v 0x110000 h)
 
-too_large : (v : ℕ) (l : List ℕ) → 0x110000 ≤ v → ifScalar (digitsFrom v l) ≡ none
-unfolding digitsFrom
-too_large v [] h = rw (no-scalar v h)
-too_large v (b ∷ r) h = go (hexDigit b) (λ d. too_large (v * 16 + d) r (omega arith))
+too_large : (v : ℕ) (l : List ℕ) → 0x110000 ≤ v → if_scalar (digits_from v l) ≡ none
+unfolding digits_from
+too_large v [] h = rw (no_scalar v h)
+too_large v (b ∷ r) h = go (hex_digit b) (λ d. too_large (v * 16 + d) r (omega arith))
   where
-    go : (o : Option ℕ) → ((d : ℕ) → ifScalar (digitsFrom (v * 16 + d) r) ≡ none) → ifScalar (digitThen o (λ d. digitsFrom (v * 16 + d) r)) ≡ none
+    go : (o : Option ℕ) → ((d : ℕ) → if_scalar (digits_from (v * 16 + d) r) ≡ none) → if_scalar (digit_then o (λ d. digits_from (v * 16 + d) r)) ≡ none
     go (some d) ih = ih d
     go none ih = refl
 
 pub large : (v : ℕ) → 0x110000 ≤ v → (h : List ℕ) → numbered true v h ≡ none
 unfolding numbered
-large v h l = too_large v (withoutUnderscore l) h
+large v h l = too_large v (without_underscore l) h

@@ -9,42 +9,42 @@ use Prim.Native.Char.{code}
 use native.Mathlib.Omega.{arith}
 use lib.Dec.{leb}
 use borrow.Author.Tests.{lt-ltb, le-leb, lt-leb}
-use Rattle.buffers.proofs.Choice.{and-false}
+use Rattle.buffers.proofs.Choice.{and_false}
 use Rattle.chars.specs.White.{within}
-use Rattle.escapes.specs.Unescape.{hexDigit}
-use Rattle.escapes.specs.Walk.{digitOr}
+use Rattle.escapes.specs.Unescape.{hex_digit}
+use Rattle.escapes.specs.Walk.{digit_or}
 
-pub zero-no-digit : {b : ℕ} → b ≡ 0 → hexDigit b ≡ digitOr 16
-unfolding hexDigit
-zero-no-digit e = rw e
+pub zero_no_digit : {b : ℕ} → b ≡ 0 → hex_digit b ≡ digit_or 16
+unfolding hex_digit
+zero_no_digit e = rw e
 
 module _ (b : ℕ) where
-  small : (v : ℕ) → v < 16 → some v ≡ digitOr v
+  small : (v : ℕ) → v < 16 → some v ≡ digit_or v
   small v h = rw (lt-ltb v 16 h)
 
-  pub decimal_digit : code "0" ≤ b → b ≤ code "9" → hexDigit b ≡ digitOr (b - code "0")
-  unfolding hexDigit
+  pub decimal_digit : code "0" ≤ b → b ≤ code "9" → hex_digit b ≡ digit_or (b - code "0")
+  unfolding hex_digit
   decimal_digit h l = rw (le-leb (code "0") b h, le-leb b (code "9") l) (small (b - code "0") (omega arith))
 
-  pub upper : code "A" ≤ b → b ≤ code "F" → hexDigit b ≡ digitOr (b - (code "A" - 10))
-  unfolding hexDigit
+  pub upper : code "A" ≤ b → b ≤ code "F" → hex_digit b ≡ digit_or (b - (code "A" - 10))
+  unfolding hex_digit
   upper h l =
       let a : code "0" ≤ b = omega arith in
       let c : code "9" < b = omega arith in
       let d : b < code "a" = omega arith in
       rw (le-leb (code "0") b a, lt-leb b (code "9") c, lt-leb (code "a") b d, le-leb (code "A") b h, le-leb b (code "F") l) (small (b - (code "A" - 10)) (omega arith))
 
-  pub lower : code "a" ≤ b → b ≤ code "f" → hexDigit b ≡ digitOr (b - (code "a" - 10))
-  unfolding hexDigit
+  pub lower : code "a" ≤ b → b ≤ code "f" → hex_digit b ≡ digit_or (b - (code "a" - 10))
+  unfolding hex_digit
   lower h l =
       let a : code "0" ≤ b = omega arith in
       let c : code "9" < b = omega arith in
       rw (le-leb (code "0") b a, lt-leb b (code "9") c, le-leb (code "a") b h, le-leb b (code "f") l) (small (b - (code "a" - 10)) (omega arith))
 
-  pub no_digit : (b < code "0") ⊎ (code "9" < b) → (b < code "A") ⊎ (code "F" < b) → (b < code "a") ⊎ (code "f" < b) → hexDigit b ≡ digitOr 16
-  unfolding hexDigit
+  pub no_digit : (b < code "0") ⊎ (code "9" < b) → (b < code "A") ⊎ (code "F" < b) → (b < code "a") ⊎ (code "f" < b) → hex_digit b ≡ digit_or 16
+  unfolding hex_digit
   no_digit p q s = rw (out (code "0") (code "9") p, out (code "a") (code "f") s, out (code "A") (code "F") q)
     where
       out : (lo hi : ℕ) → (b < lo) ⊎ (hi < b) → within lo hi b ≡ false
       out lo hi (inl l) = rw (lt-leb lo b l)
-      out lo hi (inr l) = rw (lt-leb b hi l) (and-false (leb lo b))
+      out lo hi (inr l) = rw (lt-leb b hi l) (and_false (leb lo b))

@@ -12,21 +12,21 @@ use lib.Dec.{leb, ltb, eqb}
 use lib.ListN.{length, get_or, drop, length-drop, drop_of_length-le}
 use lib.Seq.{drop-drop, get_or-drop}
 use borrow.Author.Tests.{ne_eqb, eqb-true, leb-true, lt-ltb, le-ltb}
-use Rattle.buffers.proofs.Choice.{by_cond, both-arms, and_left, and_right}
+use Rattle.buffers.proofs.Choice.{by_cond, both_arms, and_left, and_right}
 use Rattle.chars.specs.Utf8.{scalar, encode}
 use Rattle.chars.proofs.Reading.{byte_inside}
 use Rattle.chars.specs.White.{within}
-use Rattle.escapes.specs.Unescape.{hexDigit, ifScalar, radix16, withoutUnderscore, named, ontoBody, braced, charOr, unicodeOf, byteOf, shortOr, escapeAt}
-use Rattle.escapes.specs.Walk.{shortOf, braces, unicodeAt}
+use Rattle.escapes.specs.Unescape.{hex_digit, if_scalar, radix16, without_underscore, named, onto_body, braced, char_or, unicode_of, byte_of, short_or, escape_at}
+use Rattle.escapes.specs.Walk.{short_of, braces, unicode_at}
 use Rattle.escapes.specs.declared.Escape.{Escape}
 use Rattle.escapes.specs.declared.Escape.TheVariants.{Char, Verbatim}
-use Rattle.escapes.proofs.Braces.{braces-named}
+use Rattle.escapes.proofs.Braces.{braces_named}
 use Rattle.escapes.proofs.Encoding.{encoded}
 
 -- the letters of the short escapes
-pub short-code : (b : ℕ) (o : Escape) → shortOr b o ≡ cond (ltb (shortOf b) 128) (Char (shortOf b) 1) o
-unfolding shortOr shortOf
-short-code b o = go (eqb b (code "0")) (eqb b (code "t")) (eqb b (code "n")) (eqb b (code "r")) (eqb b (code "\"")) (eqb b (code "'")) (eqb b (code "\\"))
+pub short_code : (b : ℕ) (o : Escape) → short_or b o ≡ cond (ltb (short_of b) 128) (Char (short_of b) 1) o
+unfolding short_or short_of
+short_code b o = go (eqb b (code "0")) (eqb b (code "t")) (eqb b (code "n")) (eqb b (code "r")) (eqb b (code "\"")) (eqb b (code "'")) (eqb b (code "\\"))
   where
     meant : (t1 t2 t3 t4 t5 t6 t7 : Bool) → ℕ
     meant t1 t2 t3 t4 t5 t6 t7 = cond t1 0 (cond t2 (code "\t") (cond t3 (code "\n") (cond t4 (code "\r") (cond t5 (code "\"") (cond t6 (code "'") (cond t7 (code "\\") 128))))))
@@ -43,48 +43,48 @@ short-code b o = go (eqb b (code "0")) (eqb b (code "t")) (eqb b (code "n")) (eq
     go false false false false false false true = refl
     go false false false false false false false = refl
 
-pub no-letter : (b : ℕ) → (b ≡ code "0" → ⊥) → (b ≡ code "t" → ⊥) → (b ≡ code "n" → ⊥) → (b ≡ code "r" → ⊥) → (b ≡ code "\"" → ⊥) → (b ≡ code "'" → ⊥) → (b ≡ code "\\" → ⊥) → shortOf b ≡ 128
-unfolding shortOf
-no-letter b h1 h2 h3 h4 h5 h6 h7 =
+pub no_letter : (b : ℕ) → (b ≡ code "0" → ⊥) → (b ≡ code "t" → ⊥) → (b ≡ code "n" → ⊥) → (b ≡ code "r" → ⊥) → (b ≡ code "\"" → ⊥) → (b ≡ code "'" → ⊥) → (b ≡ code "\\" → ⊥) → short_of b ≡ 128
+unfolding short_of
+no_letter b h1 h2 h3 h4 h5 h6 h7 =
     rw (ne_eqb b (code "0") h1, ne_eqb b (code "t") h2, ne_eqb b (code "n") h3, ne_eqb b (code "r") h4, ne_eqb b (code "\"") h5, ne_eqb b (code "'") h6, ne_eqb b (code "\\") h7)
 
 -- the first byte behind the backslash decides
-abbrev byLetter : ℕ → List ℕ → Escape
-byLetter b r =
-    shortOr b (cond (eqb b (code "x")) (byteOf (hexDigit (get_or r 1 0)) (hexDigit (get_or r 2 0)))
-    (cond (eqb b (code "u") && eqb (get_or r 1 0) (code "{")) (unicodeOf (drop 2 r) (braced (drop 2 r))) (Verbatim 0)))
+abbrev by_letter : ℕ → List ℕ → Escape
+by_letter b r =
+    short_or b (cond (eqb b (code "x")) (byte_of (hex_digit (get_or r 1 0)) (hex_digit (get_or r 2 0)))
+    (cond (eqb b (code "u") && eqb (get_or r 1 0) (code "{")) (unicode_of (drop 2 r) (braced (drop 2 r))) (Verbatim 0)))
 
-letter : (s : List ℕ) (n b : ℕ) → get_or s n 0 ≡ b → escapeAt (drop n s) ≡ byLetter b (drop n s)
-unfolding escapeAt
-letter s n b e = ap (λ (x : ℕ). byLetter x (drop n s)) (get_or-drop n s 0 0 ∙ ap (λ (k : ℕ). get_or s k 0) (add-zero n) ∙ e)
+letter : (s : List ℕ) (n b : ℕ) → get_or s n 0 ≡ b → escape_at (drop n s) ≡ by_letter b (drop n s)
+unfolding escape_at
+letter s n b e = ap (λ (x : ℕ). by_letter x (drop n s)) (get_or-drop n s 0 0 ∙ ap (λ (k : ℕ). get_or s k 0) (add-zero n) ∙ e)
 
 module _ (s : List ℕ) (n : ℕ) where
-  pub short-at : shortOf (get_or s n 0) < 128 → escapeAt (drop n s) ≡ Char (shortOf (get_or s n 0)) 1
-  short-at h = letter s n (get_or s n 0) refl ∙ short-code (get_or s n 0) _ ∙ rw (lt-ltb (shortOf (get_or s n 0)) 128 h)
+  pub short_at : short_of (get_or s n 0) < 128 → escape_at (drop n s) ≡ Char (short_of (get_or s n 0)) 1
+  short_at h = letter s n (get_or s n 0) refl ∙ short_code (get_or s n 0) _ ∙ rw (lt-ltb (short_of (get_or s n 0)) 128 h)
 
-  pub byte_at : get_or s n 0 ≡ code "x" → escapeAt (drop n s) ≡ byteOf (hexDigit (get_or s (n + 1) 0)) (hexDigit (get_or s (n + 2) 0))
-  unfolding shortOr
+  pub byte_at : get_or s n 0 ≡ code "x" → escape_at (drop n s) ≡ byte_of (hex_digit (get_or s (n + 1) 0)) (hex_digit (get_or s (n + 2) 0))
+  unfolding short_or
   byte_at e = letter s n (code "x") e ∙ rw (get_or-drop, get_or-drop)
 
-  pub unicode-at : get_or s n 0 ≡ code "u" → escapeAt (drop n s) ≡ unicodeAt (drop n s)
-  unfolding shortOr
-  unicode-at e = letter s n (code "u") e
+  pub unicode_escape_at : get_or s n 0 ≡ code "u" → escape_at (drop n s) ≡ unicode_at (drop n s)
+  unfolding short_or
+  unicode_escape_at e = letter s n (code "u") e
 
-  pub no-brace : (get_or s (n + 1) 0 ≡ code "{" → ⊥) → unicodeAt (drop n s) ≡ Verbatim 0
-  no-brace h = rw (get_or-drop, ne_eqb (get_or s (n + 1) 0) (code "{") h)
+  pub no_brace : (get_or s (n + 1) 0 ≡ code "{" → ⊥) → unicode_at (drop n s) ≡ Verbatim 0
+  no_brace h = rw (get_or-drop, ne_eqb (get_or s (n + 1) 0) (code "{") h)
 
-  pub brace : get_or s (n + 1) 0 ≡ code "{" → unicodeAt (drop n s) ≡ braces named 2 (drop (n + 2) s)
-  brace e = rw (get_or-drop, e) (rw drop-drop (sym (braces-named (drop (n + 2) s))))
+  pub brace : get_or s (n + 1) 0 ≡ code "{" → unicode_at (drop n s) ≡ braces named 2 (drop (n + 2) s)
+  brace e = rw (get_or-drop, e) (rw drop-drop (sym (braces_named (drop (n + 2) s))))
 
-  pub no-escape : 128 ≤ shortOf (get_or s n 0) → (get_or s n 0 ≡ code "x" → ⊥) → (get_or s n 0 ≡ code "u" → ⊥) → escapeAt (drop n s) ≡ Verbatim 0
-  no-escape h x u =
+  pub no_escape : 128 ≤ short_of (get_or s n 0) → (get_or s n 0 ≡ code "x" → ⊥) → (get_or s n 0 ≡ code "u" → ⊥) → escape_at (drop n s) ≡ Verbatim 0
+  no_escape h x u =
       letter s n (get_or s n 0) refl
-      ∙ short-code (get_or s n 0) _
-      ∙ rw (le-ltb (shortOf (get_or s n 0)) 128 h, ne_eqb (get_or s n 0) (code "x") x, ne_eqb (get_or s n 0) (code "u") u)
+      ∙ short_code (get_or s n 0) _
+      ∙ rw (le-ltb (short_of (get_or s n 0)) 128 h, ne_eqb (get_or s n 0) (code "x") x, ne_eqb (get_or s n 0) (code "u") u)
 
   -- a backslash that ends the text
-  pub lone : length s ≤ n → escapeAt (drop n s) ≡ Verbatim 0
-  unfolding escapeAt shortOr
+  pub lone : length s ≤ n → escape_at (drop n s) ≡ Verbatim 0
+  unfolding escape_at short_or
   lone h = rw (drop_of_length-le s h)
 
 -- a hex digit is an ASCII byte that stands in the text
@@ -97,9 +97,9 @@ abbrev IsHex : ℕ → Option ℕ → Type 0
 IsHex b (some v) = Hex b v
 IsHex b none = Unit {0}
 
-pub is-hex : (b : ℕ) → IsHex b (hexDigit b)
-unfolding hexDigit
-is-hex b =
+pub is_hex : (b : ℕ) → IsHex b (hex_digit b)
+unfolding hex_digit
+is_hex b =
     by_cond P (within (code "0") (code "9") b) _ _ (λ e. ok (code "0") (code "9") (code "0") e (omega arith) (omega arith) (omega arith)) (λ _.
     by_cond P (within (code "a") (code "f") b) _ _ (λ e. ok (code "a") (code "f") (code "a" - 10) e (omega arith) (omega arith) (omega arith)) (λ _.
     by_cond P (within (code "A") (code "F") b) _ _ (λ e. ok (code "A") (code "F") (code "A" - 10) e (omega arith) (omega arith) (omega arith)) (λ _. tt)))
@@ -113,8 +113,8 @@ is-hex b =
         let q = leb-true b hi (and_right (leb lo b) (leb b hi) e) in
         record { small = omega arith; some_byte = omega arith; ascii = omega arith }
 
-pub hex : (b v : ℕ) → hexDigit b ≡ some v → Hex b v
-hex b v e = rw e at (is-hex b)
+pub hex : (b v : ℕ) → hex_digit b ≡ some v → Hex b v
+hex b v e = rw e at (is_hex b)
 
 -- what an escape's text and its character are bound by
 abbrev pub Held : List ℕ → Escape → Type 0
@@ -128,9 +128,9 @@ low_scalar v h = rw (lt-ltb v 0xD800 h)
 here : (r : List ℕ) (i k : ℕ) → 1 ≤ k → eqb (get_or r i 0) k ≡ true → i < length r
 here r i k h e = byte_inside r i (omega (arith, eqb-true (get_or r i 0) k e))
 
-held-short : (r : List ℕ) (o : Escape) → Held r o → Held r (shortOr (get_or r 0 0) o)
-unfolding shortOr scalar encode
-held-short r o h =
+held_short : (r : List ℕ) (o : Escape) → Held r o → Held r (short_or (get_or r 0 0) o)
+unfolding short_or scalar encode
+held_short r o h =
     let P = Held r in
     by_cond P (eqb (get_or r 0 0) (code "0")) _ _ (λ e. (refl, omega arith, here r 0 (code "0") (omega arith) e)) (λ _.
     by_cond P (eqb (get_or r 0 0) (code "t")) _ _ (λ e. (refl, omega arith, here r 0 (code "t") (omega arith) e)) (λ _.
@@ -140,13 +140,13 @@ held-short r o h =
     by_cond P (eqb (get_or r 0 0) (code "'")) _ _ (λ e. (refl, omega arith, here r 0 (code "'") (omega arith) e)) (λ _.
     by_cond P (eqb (get_or r 0 0) (code "\\")) _ _ (λ e. (refl, omega arith, here r 0 (code "\\") (omega arith) e)) (λ _. h)))))))
 
-held-byte : (r : List ℕ) → Held r (byteOf (hexDigit (get_or r 1 0)) (hexDigit (get_or r 2 0)))
-held-byte r = go (hexDigit (get_or r 1 0)) (hexDigit (get_or r 2 0)) (is-hex (get_or r 1 0)) (is-hex (get_or r 2 0))
+held_byte : (r : List ℕ) → Held r (byte_of (hex_digit (get_or r 1 0)) (hex_digit (get_or r 2 0)))
+held_byte r = go (hex_digit (get_or r 1 0)) (hex_digit (get_or r 2 0)) (is_hex (get_or r 1 0)) (is_hex (get_or r 2 0))
   where
     two : (v : ℕ) → v < 0x100 → length (encode v) ≤ 2
     two v h = (encoded v).two (omega arith)
 
-    go : (o p : Option ℕ) → IsHex (get_or r 1 0) o → IsHex (get_or r 2 0) p → Held r (byteOf o p)
+    go : (o p : Option ℕ) → IsHex (get_or r 1 0) o → IsHex (get_or r 2 0) p → Held r (byte_of o p)
     go (some v) (some w) h k =
         let a = h.small in
         let b = k.small in
@@ -155,13 +155,13 @@ held-byte r = go (hexDigit (get_or r 1 0)) (hexDigit (get_or r 2 0)) (is-hex (ge
     go none p h k = zero-le
 
 -- the braces end in the text
-braced-inside : (r body : List ℕ) → braced r ≡ some body → suc (length body) ≤ length r
+braced_inside : (r body : List ℕ) → braced r ≡ some body → suc (length body) ≤ length r
 unfolding braced
-braced-inside [] body e = let z : ◌≡◌ {A = ℕ} 0 1 = cc in absurd (omega arith)
-braced-inside (b ∷ r) body e = go (eqb b (code "}")) (braced r) body (λ body e. braced-inside r body e) e
+braced_inside [] body e = let z : ◌≡◌ {A = ℕ} 0 1 = cc in absurd (omega arith)
+braced_inside (b ∷ r) body e = go (eqb b (code "}")) (braced r) body (λ body e. braced_inside r body e) e
   where
     go : (t : Bool) (o : Option (List ℕ)) (body : List ℕ) → ((body : List ℕ) → o ≡ some body → suc (length body) ≤ length r)
-        → cond t (some []) (ontoBody b o) ≡ some body → suc (length body) ≤ suc (length r)
+        → cond t (some []) (onto_body b o) ≡ some body → suc (length body) ≤ suc (length r)
     go true o body ih e = let z : [] ≡ body = cc in rw (← z) (omega arith)
     go false (some rest) body ih e = let z : b ∷ rest ≡ body = cc in rw (← z) (omega (arith, ih rest refl))
     go false none body ih e = let z : ◌≡◌ {A = ℕ} 0 1 = cc in absurd (omega arith)
@@ -171,40 +171,40 @@ abbrev IsScalar : Option ℕ → Type 0
 IsScalar (some v) = scalar v ≡ true
 IsScalar none = Unit {0}
 
-named-scalar : (body : List ℕ) → IsScalar (named body)
+named_scalar : (body : List ℕ) → IsScalar (named body)
 unfolding named
-named-scalar [] = tt
-named-scalar (b ∷ r) = both-arms IsScalar (eqb b (code "_")) tt (go (radix16 (withoutUnderscore (b ∷ r))))
+named_scalar [] = tt
+named_scalar (b ∷ r) = both_arms IsScalar (eqb b (code "_")) tt (go (radix16 (without_underscore (b ∷ r))))
   where
-    go : (o : Option ℕ) → IsScalar (ifScalar o)
+    go : (o : Option ℕ) → IsScalar (if_scalar o)
     go (some v) = by_cond IsScalar (scalar v) _ _ (λ e. e) (λ _. tt)
     go none = tt
 
-held-unicode : (r : List ℕ) → 1 < length r → Held r (unicodeOf (drop 2 r) (braced (drop 2 r)))
-held-unicode r h = go (braced (drop 2 r)) (λ body e. braced-inside (drop 2 r) body e)
+held_unicode : (r : List ℕ) → 1 < length r → Held r (unicode_of (drop 2 r) (braced (drop 2 r)))
+held_unicode r h = go (braced (drop 2 r)) (λ body e. braced_inside (drop 2 r) body e)
   where
     ends : (body : List ℕ) → suc (length body) ≤ length (drop 2 r) → 2 + suc (length body) ≤ length r
     ends body l = omega (arith, length-drop 2 r)
 
-    as-char : (body : List ℕ) (o : Option ℕ) → IsScalar o → suc (length body) ≤ length (drop 2 r) → Held r (charOr o (2 + suc (length body)))
-    as-char body (some v) s l = (s, omega (arith, (encoded v).few), ends body l)
-    as-char body none s l = ends body l
+    as_char : (body : List ℕ) (o : Option ℕ) → IsScalar o → suc (length body) ≤ length (drop 2 r) → Held r (char_or o (2 + suc (length body)))
+    as_char body (some v) s l = (s, omega (arith, (encoded v).few), ends body l)
+    as_char body none s l = ends body l
 
-    go : (o : Option (List ℕ)) → ((body : List ℕ) → o ≡ some body → suc (length body) ≤ length (drop 2 r)) → Held r (unicodeOf (drop 2 r) o)
-    go (some body) f = as-char body (named body) (named-scalar body) (f body refl)
+    go : (o : Option (List ℕ)) → ((body : List ℕ) → o ≡ some body → suc (length body) ≤ length (drop 2 r)) → Held r (unicode_of (drop 2 r) o)
+    go (some body) f = as_char body (named body) (named_scalar body) (f body refl)
     go none f = omega (arith, length-drop 2 r)
 
-pub held : (r : List ℕ) → Held r (escapeAt r)
-unfolding escapeAt
+pub held : (r : List ℕ) → Held r (escape_at r)
+unfolding escape_at
 held r =
     let P = Held r in
-    held-short r _
-    (by_cond P (eqb (get_or r 0 0) (code "x")) _ _ (λ _. held-byte r) (λ _.
+    held_short r _
+    (by_cond P (eqb (get_or r 0 0) (code "x")) _ _ (λ _. held_byte r) (λ _.
     by_cond P (eqb (get_or r 0 0) (code "u") && eqb (get_or r 1 0) (code "{")) _ _
-    (λ e. held-unicode r (here r 1 (code "{") (omega arith) (and_right (eqb (get_or r 0 0) (code "u")) (eqb (get_or r 1 0) (code "{")) e))) (λ _. zero-le)))
+    (λ e. held_unicode r (here r 1 (code "{") (omega arith) (and_right (eqb (get_or r 0 0) (code "u")) (eqb (get_or r 1 0) (code "{")) e))) (λ _. zero-le)))
 
-pub held-char : (r : List ℕ) (v n : ℕ) → escapeAt r ≡ Char v n → Held r (Char v n)
-held-char r v n e = rw e at (held r)
+pub held_char : (r : List ℕ) (v n : ℕ) → escape_at r ≡ Char v n → Held r (Char v n)
+held_char r v n e = rw e at (held r)
 
-pub held-verbatim : (r : List ℕ) (n : ℕ) → escapeAt r ≡ Verbatim n → n ≤ length r
-held-verbatim r n e = rw e at (held r)
+pub held_verbatim : (r : List ℕ) (n : ℕ) → escape_at r ≡ Verbatim n → n ≤ length r
+held_verbatim r n e = rw e at (held r)

@@ -2,7 +2,7 @@
 -- Assumes nothing.
 use mathlib.Core.Path.{◌≡◌, refl, sym, ap, ap₂, ◌∙◌}
 use mathlib.Core.Bool.{Bool, true, false, cond}
-use mathlib.Core.List.{List, [], ◌∷◌, ◌++◌, append_assoc}
+use mathlib.Core.List.{List, [], ◌∷◌, ◌++◌, append_assoc, append-nil}
 use Prim.Native.Nat.{ℕ, zero, suc, ◌+◌, ◌-◌, ◌≤◌, ◌<◌, zero-le}
 use Prim.Native.Char.{code}
 use native.Mathlib.Numerals.{add-one}
@@ -13,148 +13,160 @@ use lib.ListN.{length, get_or, take, drop, length-append, length-take, length-dr
 use lib.Seq.{drop-cons, drop-drop, take-add}
 use borrow.Author.Tests.{ne_eqb}
 use Rattle.buffers.proofs.Appending.{length_part}
-use Rattle.buffers.proofs.Choice.{both-arms}
+use Rattle.buffers.proofs.Choice.{both_arms}
 use Rattle.buffers.proofs.Skipping.{skipped}
 use Rattle.chars.specs.Utf8.{encode}
-use Rattle.escapes.specs.Unescape.{escapeAt, pieceAt, standsFor, bytesTaken, unescapeFrom, unescape}
-use Rattle.escapes.specs.Walk.{plainRun, shortOf}
+use Rattle.escapes.specs.Unescape.{escape_at, piece_at, stands_for, bytes_taken, unescape_from, unescape}
+use Rattle.escapes.specs.Walk.{plain_run, short_of}
 use Rattle.escapes.specs.declared.Escape.{Escape}
 use Rattle.escapes.specs.declared.Escape.TheVariants.{Char, Verbatim}
-use Rattle.escapes.proofs.Escapes.{Held, held, held-char, held-verbatim, short-at}
-use Rattle.chars.proofs.Writing.{encode-1}
+use Rattle.escapes.proofs.Escapes.{Held, held, held_char, held_verbatim, short_at}
+use Rattle.chars.proofs.Writing.{encode_1}
 
-pub unescape-skip : (k : ℕ) (s : List ℕ) → unescapeFrom k s ≡ unescape (drop k s)
-unfolding unescapeFrom
-unescape-skip k s = skipped unescapeFrom (λ k. refl) (λ k a r. refl) k s
+pub unescape_skip : (k : ℕ) (s : List ℕ) → unescape_from k s ≡ unescape (drop k s)
+unfolding unescape_from
+unescape_skip k s = skipped unescape_from (λ k. refl) (λ k a r. refl) k s
 
 -- one piece is taken off
-pub unescape-at : (a : ℕ) (r : List ℕ) → unescape (a ∷ r) ≡ standsFor (a ∷ r) (pieceAt a r) ++ unescape (drop (bytesTaken (pieceAt a r)) r)
-unfolding unescapeFrom
-unescape-at a r = ap (λ (l : List ℕ). standsFor (a ∷ r) (pieceAt a r) ++ l) (unescape-skip (bytesTaken (pieceAt a r)) r)
+pub unescape_at : (a : ℕ) (r : List ℕ) → unescape (a ∷ r) ≡ stands_for (a ∷ r) (piece_at a r) ++ unescape (drop (bytes_taken (piece_at a r)) r)
+unfolding unescape_from
+unescape_at a r = ap (λ (l : List ℕ). stands_for (a ∷ r) (piece_at a r) ++ l) (unescape_skip (bytes_taken (piece_at a r)) r)
 
 -- an escape
-pub unescape-at-escape : (r : List ℕ) (e : Escape) → escapeAt r ≡ e → unescape (code "\\" ∷ r) ≡ standsFor (code "\\" ∷ r) e ++ unescape (drop (bytesTaken e) r)
-unescape-at-escape r e h = unescape-at (code "\\") r ∙ ap (λ (e : Escape). standsFor (code "\\" ∷ r) e ++ unescape (drop (bytesTaken e) r)) h
+pub unescape_at_escape : (r : List ℕ) (e : Escape) → escape_at r ≡ e → unescape (code "\\" ∷ r) ≡ stands_for (code "\\" ∷ r) e ++ unescape (drop (bytes_taken e) r)
+unescape_at_escape r e h = unescape_at (code "\\") r ∙ ap (λ (e : Escape). stands_for (code "\\" ∷ r) e ++ unescape (drop (bytes_taken e) r)) h
 
 -- a byte that is no backslash
-pub unescape-plain : (a : ℕ) (r : List ℕ) → (a ≡ code "\\" → ⊥) → unescape (a ∷ r) ≡ a ∷ unescape r
-unescape-plain a r h = unescape-at a r ∙ ap (λ (e : Escape). standsFor (a ∷ r) e ++ unescape (drop (bytesTaken e) r)) (none_here a r h)
+pub unescape_plain : (a : ℕ) (r : List ℕ) → (a ≡ code "\\" → ⊥) → unescape (a ∷ r) ≡ a ∷ unescape r
+unescape_plain a r h = unescape_at a r ∙ ap (λ (e : Escape). stands_for (a ∷ r) e ++ unescape (drop (bytes_taken e) r)) (none_here a r h)
   where
-    none_here : (a : ℕ) (r : List ℕ) → (a ≡ code "\\" → ⊥) → pieceAt a r ≡ Verbatim 0
+    none_here : (a : ℕ) (r : List ℕ) → (a ≡ code "\\" → ⊥) → piece_at a r ≡ Verbatim 0
     none_here a r h = rw (ne_eqb a (code "\\") h)
 
 -- a run without a backslash
-pub run_inside : (s : List ℕ) → plainRun s ≤ length s
-unfolding plainRun
+pub run_inside : (s : List ℕ) → plain_run s ≤ length s
+unfolding plain_run
 run_inside [] = zero-le
 run_inside (a ∷ r) = go (eqb a (code "\\")) (run_inside r)
   where
-    go : (t : Bool) → plainRun r ≤ length r → cond t 0 (suc (plainRun r)) ≤ suc (length r)
+    go : (t : Bool) → plain_run r ≤ length r → cond t 0 (suc (plain_run r)) ≤ suc (length r)
     go true h = zero-le
     go false h = omega arith
 
-run-plain : (a : ℕ) (r : List ℕ) → (a ≡ code "\\" → ⊥) → plainRun (a ∷ r) ≡ suc (plainRun r)
-unfolding plainRun
-run-plain a r h = rw (ne_eqb a (code "\\") h)
+run_plain : (a : ℕ) (r : List ℕ) → (a ≡ code "\\" → ⊥) → plain_run (a ∷ r) ≡ suc (plain_run r)
+unfolding plain_run
+run_plain a r h = rw (ne_eqb a (code "\\") h)
 
-run-stops : (r : List ℕ) → plainRun (code "\\" ∷ r) ≡ 0
-unfolding plainRun
-run-stops r = refl
+run_stops : (r : List ℕ) → plain_run (code "\\" ∷ r) ≡ 0
+unfolding plain_run
+run_stops r = refl
 
 -- the same at a place of the text
 module _ (s : List ℕ) (i : ℕ) where
-  pub run-plain-at : i < length s → (get_or s i 0 ≡ code "\\" → ⊥) → plainRun (drop i s) ≡ suc (plainRun (drop (i + 1) s))
-  run-plain-at h n = rw (add-one i, drop-cons s i 0 h) (run-plain (get_or s i 0) (drop (suc i) s) n)
+  pub run_plain_at : i < length s → (get_or s i 0 ≡ code "\\" → ⊥) → plain_run (drop i s) ≡ suc (plain_run (drop (i + 1) s))
+  run_plain_at h n = rw (add-one i, drop-cons s i 0 h) (run_plain (get_or s i 0) (drop (suc i) s) n)
 
-  pub run-stops-at : i < length s → get_or s i 0 ≡ code "\\" → plainRun (drop i s) ≡ 0
-  run-stops-at h e = rw (drop-cons s i 0 h, e) (run-stops (drop (suc i) s))
+  pub run_stops_at : i < length s → get_or s i 0 ≡ code "\\" → plain_run (drop i s) ≡ 0
+  run_stops_at h e = rw (drop-cons s i 0 h, e) (run_stops (drop (suc i) s))
 
-  pub run-end-at : length s ≤ i → plainRun (drop i s) ≡ 0
-  unfolding plainRun
-  run-end-at h = rw (drop_of_length-le s h)
+  pub run_end_at : length s ≤ i → plain_run (drop i s) ≡ 0
+  unfolding plain_run
+  run_end_at h = rw (drop_of_length-le s h)
 
-run_none : unescape [] ≡ take (plainRun []) [] ++ unescape (drop (plainRun []) [])
-unfolding plainRun
+run_none : unescape [] ≡ take (plain_run []) [] ++ unescape (drop (plain_run []) [])
+unfolding plain_run
 run_none = refl
 
-pub unescape-run : (s : List ℕ) → unescape s ≡ take (plainRun s) s ++ unescape (drop (plainRun s) s)
-unescape-run [] = run_none
-unescape-run (a ∷ r) = go (ℕ_discrete a (code "\\")) (unescape-run r)
+pub unescape_run : (s : List ℕ) → unescape s ≡ take (plain_run s) s ++ unescape (drop (plain_run s) s)
+unescape_run [] = run_none
+unescape_run (a ∷ r) = go (ℕ_discrete a (code "\\")) (unescape_run r)
   where
-    go : Dec (a ≡ code "\\") → unescape r ≡ take (plainRun r) r ++ unescape (drop (plainRun r) r)
-        → unescape (a ∷ r) ≡ take (plainRun (a ∷ r)) (a ∷ r) ++ unescape (drop (plainRun (a ∷ r)) (a ∷ r))
-    go (yes e) ih = rw (e, run-stops r)
-    go (no n) ih = rw (run-plain a r n) (unescape-plain a r n ∙ ap (λ (l : List ℕ). a ∷ l) ih)
+    go : Dec (a ≡ code "\\") → unescape r ≡ take (plain_run r) r ++ unescape (drop (plain_run r) r)
+        → unescape (a ∷ r) ≡ take (plain_run (a ∷ r)) (a ∷ r) ++ unescape (drop (plain_run (a ∷ r)) (a ∷ r))
+    go (yes e) ih = rw (e, run_stops r)
+    go (no n) ih = rw (run_plain a r n) (unescape_plain a r n ∙ ap (λ (l : List ℕ). a ∷ l) ih)
+
+-- a text without a backslash stands for itself
+run_all : (s : List ℕ) → ((i : ℕ) → i < length s → get_or s i 0 ≡ code "\\" → ⊥) → plain_run s ≡ length s
+unfolding plain_run
+run_all [] f = refl
+run_all (a ∷ r) f = run_plain a r (f 0 (omega arith)) ∙ ap suc (run_all r (λ i h. f (suc i) (omega arith)))
+
+pub unescape_same : (s : List ℕ) → ((i : ℕ) → i < length s → get_or s i 0 ≡ code "\\" → ⊥) → unescape s ≡ s
+unfolding unescape_from
+unescape_same s f =
+    unescape_run s
+    ∙ rw (run_all s f, lib.Seq.take-length, lib.Seq.drop-length) (append-nil s)
 
 -- the pieces at a place of the text
 module _ (s : List ℕ) (i : ℕ) where
-  pub run_at : (stop : ℕ) → stop ≡ i + plainRun (drop i s) → unescape (drop i s) ≡ take (stop - i) (drop i s) ++ unescape (drop stop s)
+  pub run_at : (stop : ℕ) → stop ≡ i + plain_run (drop i s) → unescape (drop i s) ≡ take (stop - i) (drop i s) ++ unescape (drop stop s)
   run_at stop e =
-      let n : stop - i ≡ plainRun (drop i s) = omega arith in
-      unescape-run (drop i s) ∙ rw (n, e) (ap (λ (l : List ℕ). take (plainRun (drop i s)) (drop i s) ++ unescape l) (drop-drop (plainRun (drop i s)) i s))
+      let n : stop - i ≡ plain_run (drop i s) = omega arith in
+      unescape_run (drop i s) ∙ rw (n, e) (ap (λ (l : List ℕ). take (plain_run (drop i s)) (drop i s) ++ unescape l) (drop-drop (plain_run (drop i s)) i s))
 
-  pub run_ends : (stop : ℕ) → stop ≡ i + plainRun (drop i s) → i ≤ length s → stop ≤ length s
+  pub run_ends : (stop : ℕ) → stop ≡ i + plain_run (drop i s) → i ≤ length s → stop ≤ length s
   run_ends stop e h = omega (arith, run_inside (drop i s), length-drop i s)
 
-  pub run-moves : (stop : ℕ) → stop ≡ i + plainRun (drop i s) → i < length s → (get_or s i 0 ≡ code "\\" → ⊥) → i < stop
-  run-moves stop e h b = omega (arith, run-plain-at s i h b)
+  pub run_moves : (stop : ℕ) → stop ≡ i + plain_run (drop i s) → i < length s → (get_or s i 0 ≡ code "\\" → ⊥) → i < stop
+  run_moves stop e h b = omega (arith, run_plain_at s i h b)
 
-  pub run-size : (stop : ℕ) → stop ≡ i + plainRun (drop i s) → i ≤ length s
+  pub run_size : (stop : ℕ) → stop ≡ i + plain_run (drop i s) → i ≤ length s
       → length (unescape (drop i s)) ≡ stop - i + length (unescape (drop stop s))
-  run-size stop e h =
+  run_size stop e h =
       ap length (run_at stop e)
       ∙ length-append (take (stop - i) (drop i s)) (unescape (drop stop s))
       ∙ ap (λ (k : ℕ). k + length (unescape (drop stop s))) (length_part i (stop - i) s (omega (arith, run_ends stop e h)))
 
   module _ (h : i < length s) (b : get_or s i 0 ≡ code "\\") where
-    escape-here : (e : Escape) → escapeAt (drop (i + 1) s) ≡ e → unescape (drop i s) ≡ standsFor (drop i s) e ++ unescape (drop (i + 1 + bytesTaken e) s)
-    escape-here e f =
+    escape_here : (e : Escape) → escape_at (drop (i + 1) s) ≡ e → unescape (drop i s) ≡ stands_for (drop i s) e ++ unescape (drop (i + 1 + bytes_taken e) s)
+    escape_here e f =
         rw (drop-cons s i 0 h, b, ← add-one i)
-        (unescape-at-escape (drop (i + 1) s) e f ∙ ap (λ (l : List ℕ). standsFor (code "\\" ∷ drop (i + 1) s) e ++ unescape l) (drop-drop (bytesTaken e) (i + 1) s))
+        (unescape_at_escape (drop (i + 1) s) e f ∙ ap (λ (l : List ℕ). stands_for (code "\\" ∷ drop (i + 1) s) e ++ unescape l) (drop-drop (bytes_taken e) (i + 1) s))
 
-    pub char-at : (v n : ℕ) → escapeAt (drop (i + 1) s) ≡ Char v n → unescape (drop i s) ≡ encode v ++ unescape (drop (i + 1 + n) s)
-    char-at v n f = escape-here (Char v n) f
+    pub char_stands_at : (v n : ℕ) → escape_at (drop (i + 1) s) ≡ Char v n → unescape (drop i s) ≡ encode v ++ unescape (drop (i + 1 + n) s)
+    char_stands_at v n f = escape_here (Char v n) f
 
-    pub char-ends : (v n : ℕ) → escapeAt (drop (i + 1) s) ≡ Char v n → i + 1 + n ≤ length s
-    char-ends v n f = let k = (held-char (drop (i + 1) s) v n f).2 in omega (arith, length-drop (i + 1) s)
+    pub char_ends : (v n : ℕ) → escape_at (drop (i + 1) s) ≡ Char v n → i + 1 + n ≤ length s
+    char_ends v n f = let k = (held_char (drop (i + 1) s) v n f).2 in omega (arith, length-drop (i + 1) s)
 
     -- a short escape, by its code
-    short-here : (c : ℕ) → c ≡ shortOf (get_or s (i + 1) 0) → c < 128 → escapeAt (drop (i + 1) s) ≡ Char c 1
-    short-here c e l = let k : shortOf (get_or s (i + 1) 0) < 128 = omega arith in short-at s (i + 1) k ∙ ap (λ (c : ℕ). Char c 1) (sym e)
+    short_here : (c : ℕ) → c ≡ short_of (get_or s (i + 1) 0) → c < 128 → escape_at (drop (i + 1) s) ≡ Char c 1
+    short_here c e l = let k : short_of (get_or s (i + 1) 0) < 128 = omega arith in short_at s (i + 1) k ∙ ap (λ (c : ℕ). Char c 1) (sym e)
 
-    pub short-piece : (c : ℕ) → c ≡ shortOf (get_or s (i + 1) 0) → c < 128 → unescape (drop i s) ≡ (c ∷ []) ++ unescape (drop (i + 2) s)
-    short-piece c e l =
+    pub short_piece : (c : ℕ) → c ≡ short_of (get_or s (i + 1) 0) → c < 128 → unescape (drop i s) ≡ (c ∷ []) ++ unescape (drop (i + 2) s)
+    short_piece c e l =
         let k : i + 1 + 1 ≡ i + 2 = omega arith in
-        char-at c 1 (short-here c e l) ∙ ap₂ (λ (x : List ℕ) (n : ℕ). x ++ unescape (drop n s)) (encode-1 c l) k
+        char_stands_at c 1 (short_here c e l) ∙ ap₂ (λ (x : List ℕ) (n : ℕ). x ++ unescape (drop n s)) (encode_1 c l) k
 
-    pub short-ends : (c : ℕ) → c ≡ shortOf (get_or s (i + 1) 0) → c < 128 → i + 2 ≤ length s
-    short-ends c e l = omega (arith, char-ends c 1 (short-here c e l))
+    pub short_ends : (c : ℕ) → c ≡ short_of (get_or s (i + 1) 0) → c < 128 → i + 2 ≤ length s
+    short_ends c e l = omega (arith, char_ends c 1 (short_here c e l))
 
-    pub short-size : (c : ℕ) → c ≡ shortOf (get_or s (i + 1) 0) → c < 128 → length (unescape (drop i s)) ≡ 1 + length (unescape (drop (i + 2) s))
-    short-size c e l = ap length (short-piece c e l) ∙ length-append (c ∷ []) (unescape (drop (i + 2) s))
+    pub short_size : (c : ℕ) → c ≡ short_of (get_or s (i + 1) 0) → c < 128 → length (unescape (drop i s)) ≡ 1 + length (unescape (drop (i + 2) s))
+    short_size c e l = ap length (short_piece c e l) ∙ length-append (c ∷ []) (unescape (drop (i + 2) s))
 
-    pub char-size : (v n : ℕ) → escapeAt (drop (i + 1) s) ≡ Char v n
+    pub char_size : (v n : ℕ) → escape_at (drop (i + 1) s) ≡ Char v n
         → length (unescape (drop i s)) ≡ length (encode v) + length (unescape (drop (i + 1 + n) s))
-    char-size v n f = ap length (char-at v n f) ∙ length-append (encode v) (unescape (drop (i + 1 + n) s))
+    char_size v n f = ap length (char_stands_at v n f) ∙ length-append (encode v) (unescape (drop (i + 1 + n) s))
 
-    pub verbatim-at : (n stop : ℕ) → stop ≡ i + 1 + n → escapeAt (drop (i + 1) s) ≡ Verbatim n
+    pub verbatim_at : (n stop : ℕ) → stop ≡ i + 1 + n → escape_at (drop (i + 1) s) ≡ Verbatim n
         → unescape (drop i s) ≡ take (stop - i) (drop i s) ++ unescape (drop stop s)
-    verbatim-at n stop e f = let k : stop - i ≡ suc n = omega arith in rw (k, e) (escape-here (Verbatim n) f)
+    verbatim_at n stop e f = let k : stop - i ≡ suc n = omega arith in rw (k, e) (escape_here (Verbatim n) f)
 
-    pub verbatim-ends : (n : ℕ) → escapeAt (drop (i + 1) s) ≡ Verbatim n → i + 1 + n ≤ length s
-    verbatim-ends n f = let k = held-verbatim (drop (i + 1) s) n f in omega (arith, length-drop (i + 1) s)
+    pub verbatim_ends : (n : ℕ) → escape_at (drop (i + 1) s) ≡ Verbatim n → i + 1 + n ≤ length s
+    verbatim_ends n f = let k = held_verbatim (drop (i + 1) s) n f in omega (arith, length-drop (i + 1) s)
 
-    pub verbatim-size : (n : ℕ) → escapeAt (drop (i + 1) s) ≡ Verbatim n
+    pub verbatim_size : (n : ℕ) → escape_at (drop (i + 1) s) ≡ Verbatim n
         → length (unescape (drop i s)) ≡ 1 + n + length (unescape (drop (i + 1 + n) s))
-    verbatim-size n f =
+    verbatim_size n f =
         let k : i + 1 + n - i ≡ 1 + n = omega arith in
-        ap length (verbatim-at n (i + 1 + n) refl f)
+        ap length (verbatim_at n (i + 1 + n) refl f)
         ∙ length-append (take (i + 1 + n - i) (drop i s)) (unescape (drop (i + 1 + n) s))
-        ∙ ap (λ (m : ℕ). m + length (unescape (drop (i + 1 + n) s))) (length_part i (i + 1 + n - i) s (omega (arith, verbatim-ends n f)) ∙ k)
+        ∙ ap (λ (m : ℕ). m + length (unescape (drop (i + 1 + n) s))) (length_part i (i + 1 + n - i) s (omega (arith, verbatim_ends n f)) ∙ k)
 
 -- what is no escape, and the run behind it
-runs-joined : (s : List ℕ) (i p stop : ℕ) → i ≤ p → p ≤ stop → take (p - i) (drop i s) ++ take (stop - p) (drop p s) ≡ take (stop - i) (drop i s)
-runs-joined s i p stop h l =
+runs_joined : (s : List ℕ) (i p stop : ℕ) → i ≤ p → p ≤ stop → take (p - i) (drop i s) ++ take (stop - p) (drop p s) ≡ take (stop - i) (drop i s)
+runs_joined s i p stop h l =
     let k : p - i + (stop - p) ≡ stop - i = omega arith in
     let m : p ≡ i + (p - i) = omega arith in
     ap (λ (q : ℕ). take (p - i) (drop i s) ++ take (stop - p) (drop q s)) m
@@ -162,32 +174,32 @@ runs-joined s i p stop h l =
     ∙ sym (take-add (p - i) (stop - p) (drop i s))
     ∙ ap (λ (q : ℕ). take q (drop i s)) k
 
-pub verbatim-run : (s : List ℕ) (i : ℕ) → i < length s → get_or s i 0 ≡ code "\\" → (n stop : ℕ) → stop ≡ i + 1 + n + plainRun (drop (i + 1 + n) s)
-    → escapeAt (drop (i + 1) s) ≡ Verbatim n → unescape (drop i s) ≡ take (stop - i) (drop i s) ++ unescape (drop stop s)
-verbatim-run s i h b n stop e f =
-    verbatim-at s i h b n (i + 1 + n) refl f
+pub verbatim_run : (s : List ℕ) (i : ℕ) → i < length s → get_or s i 0 ≡ code "\\" → (n stop : ℕ) → stop ≡ i + 1 + n + plain_run (drop (i + 1 + n) s)
+    → escape_at (drop (i + 1) s) ≡ Verbatim n → unescape (drop i s) ≡ take (stop - i) (drop i s) ++ unescape (drop stop s)
+verbatim_run s i h b n stop e f =
+    verbatim_at s i h b n (i + 1 + n) refl f
     ∙ ap (λ (l : List ℕ). take (i + 1 + n - i) (drop i s) ++ l) (run_at s (i + 1 + n) stop e)
     ∙ sym (append_assoc (take (i + 1 + n - i) (drop i s)) (take (stop - (i + 1 + n)) (drop (i + 1 + n) s)) (unescape (drop stop s)))
-    ∙ ap (λ (l : List ℕ). l ++ unescape (drop stop s)) (runs-joined s i (i + 1 + n) stop (omega arith) (omega arith))
+    ∙ ap (λ (l : List ℕ). l ++ unescape (drop stop s)) (runs_joined s i (i + 1 + n) stop (omega arith) (omega arith))
 
-pub unescape-end : (s : List ℕ) (i : ℕ) → length s ≤ i → unescape (drop i s) ≡ []
-unfolding unescapeFrom
-unescape-end s i h = rw (drop_of_length-le s h)
+pub unescape_end : (s : List ℕ) (i : ℕ) → length s ≤ i → unescape (drop i s) ≡ []
+unfolding unescape_from
+unescape_end s i h = rw (drop_of_length-le s h)
 
 -- a text never stands for a longer one
-shorter : (k : ℕ) (s : List ℕ) → length (unescapeFrom k s) ≤ length s - k
-unfolding unescapeFrom
+shorter : (k : ℕ) (s : List ℕ) → length (unescape_from k s) ≤ length s - k
+unfolding unescape_from
 shorter k [] = zero-le
 shorter (suc k) (a ∷ r) = omega (arith, shorter k r)
-shorter zero (a ∷ r) = go (pieceAt a r) (piece-held a r) (λ k. shorter k r)
+shorter zero (a ∷ r) = go (piece_at a r) (piece_held a r) (λ k. shorter k r)
   where
-    piece-held : (a : ℕ) (r : List ℕ) → Held r (pieceAt a r)
-    piece-held a r = both-arms (Held r) (eqb a (code "\\")) (held r) zero-le
+    piece_held : (a : ℕ) (r : List ℕ) → Held r (piece_at a r)
+    piece_held a r = both_arms (Held r) (eqb a (code "\\")) (held r) zero-le
 
-    go : (t : Escape) → Held r t → ((k : ℕ) → length (unescapeFrom k r) ≤ length r - k)
-        → length (standsFor (a ∷ r) t ++ unescapeFrom (bytesTaken t) r) ≤ suc (length r) - 0
-    go (Char v n) f ih = omega (arith, f.1, f.2, ih n, length-append (encode v) (unescapeFrom n r))
-    go (Verbatim n) f ih = omega (arith, ih n, length-append (a ∷ take n r) (unescapeFrom n r), length-take n r)
+    go : (t : Escape) → Held r t → ((k : ℕ) → length (unescape_from k r) ≤ length r - k)
+        → length (stands_for (a ∷ r) t ++ unescape_from (bytes_taken t) r) ≤ suc (length r) - 0
+    go (Char v n) f ih = omega (arith, f.1, f.2, ih n, length-append (encode v) (unescape_from n r))
+    go (Verbatim n) f ih = omega (arith, ih n, length-append (a ∷ take n r) (unescape_from n r), length-take n r)
 
-pub unescape-length : (s : List ℕ) → length (unescape s) ≤ length s
-unescape-length s = omega (arith, shorter 0 s)
+pub unescape_length : (s : List ℕ) → length (unescape s) ≤ length s
+unescape_length s = omega (arith, shorter 0 s)

@@ -7,7 +7,7 @@ use Rattle.std.specs.Prelude.{cond, ◌&&◌, ◌||◌, List, [], ◌∷◌, ◌
 use Rattle.std.proofs.Math.Option.{Option, none, some}
 use Prim.Native.Char.{code}
 use Rattle.chars.specs.Utf8.{scalar, encode}
-use Rattle.escapes.specs.Unescape.{hexDigit}
+use Rattle.escapes.specs.Unescape.{hex_digit}
 
 -- what a backslash begins: a character and how many bytes it takes behind the backslash, or an error
 pub data Literal : Type 0 where
@@ -15,26 +15,26 @@ pub data Literal : Type 0 where
   wrong : Literal
 
 -- \x and two digits
-abbrev pub asciiOf : Option ℕ → Option ℕ → Literal
-asciiOf (some v) (some w) = cond (leb (v * 16 + w) 0x7F) (char (v * 16 + w) 3) wrong
-asciiOf (some v) none = wrong
-asciiOf none second = wrong
+abbrev pub ascii_of : Option ℕ → Option ℕ → Literal
+ascii_of (some v) (some w) = cond (leb (v * 16 + w) 0x7F) (char (v * 16 + w) 3) wrong
+ascii_of (some v) none = wrong
+ascii_of none second = wrong
 
-abbrev pub nextDigit : Option ℕ → (ℕ → Literal) → Literal
-nextDigit (some d) go = go d
-nextDigit none go = wrong
+abbrev pub next_digit : Option ℕ → (ℕ → Literal) → Literal
+next_digit (some d) go = go d
+next_digit none go = wrong
 
 -- \u{ and what follows, where `count` digits were read, which give v, and n bytes behind the backslash
-unfoldable pub unicodeFrom : ℕ → ℕ → ℕ → List ℕ → Literal
-unicodeFrom count v n [] = wrong
-unicodeFrom count v n (b ∷ r) =
+unfoldable pub unicode_from : ℕ → ℕ → ℕ → List ℕ → Literal
+unicode_from count v n [] = wrong
+unicode_from count v n (b ∷ r) =
     cond (eqb b (code "}")) (cond (leb 1 count && (leb count 6 && scalar v)) (char v (n + 1)) wrong)
-    (cond (eqb b (code "_")) (cond (leb 1 count) (unicodeFrom count v (n + 1) r) wrong)
-    (nextDigit (hexDigit b) (λ d. unicodeFrom (suc count) (v * 16 + d) (n + 1) r)))
+    (cond (eqb b (code "_")) (cond (leb 1 count) (unicode_from count v (n + 1) r) wrong)
+    (next_digit (hex_digit b) (λ d. unicode_from (suc count) (v * 16 + d) (n + 1) r)))
 
 -- what a backslash with the bytes r behind it begins
-unfoldable pub literalAt : List ℕ → Literal
-literalAt r =
+unfoldable pub literal_at : List ℕ → Literal
+literal_at r =
     cond (eqb (get_or r 0 0) (code "0")) (char 0 1)
     (cond (eqb (get_or r 0 0) (code "t")) (char (code "\t") 1)
     (cond (eqb (get_or r 0 0) (code "n")) (char (code "\n") 1)
@@ -42,24 +42,24 @@ literalAt r =
     (cond (eqb (get_or r 0 0) (code "\"")) (char (code "\"") 1)
     (cond (eqb (get_or r 0 0) (code "'")) (char (code "'") 1)
     (cond (eqb (get_or r 0 0) (code "\\")) (char (code "\\") 1)
-    (cond (eqb (get_or r 0 0) (code "x")) (asciiOf (hexDigit (get_or r 1 0)) (hexDigit (get_or r 2 0)))
-    (cond (eqb (get_or r 0 0) (code "u") && eqb (get_or r 1 0) (code "{")) (unicodeFrom 0 0 2 (drop 2 r)) wrong))))))))
+    (cond (eqb (get_or r 0 0) (code "x")) (ascii_of (hex_digit (get_or r 1 0)) (hex_digit (get_or r 2 0)))
+    (cond (eqb (get_or r 0 0) (code "u") && eqb (get_or r 1 0) (code "{")) (unicode_from 0 0 2 (drop 2 r)) wrong))))))))
 
-abbrev pub beforeRest : List ℕ → Option (List ℕ) → Option (List ℕ)
-beforeRest x (some y) = some (x ++ y)
-beforeRest x none = none
+abbrev pub before_rest : List ℕ → Option (List ℕ) → Option (List ℕ)
+before_rest x (some y) = some (x ++ y)
+before_rest x none = none
 
 abbrev pub literally : Literal → (ℕ → Option (List ℕ)) → Option (List ℕ)
-literally (char v n) rest = beforeRest (encode v) (rest n)
+literally (char v n) rest = before_rest (encode v) (rest n)
 literally wrong rest = none
 
 -- what a literal's text stands for behind its first k bytes, which were read already; none where it is an error
-unfoldable pub cedarFrom : ℕ → List ℕ → Option (List ℕ)
-cedarFrom k [] = some []
-cedarFrom (suc k) (a ∷ r) = cedarFrom k r
-cedarFrom zero (a ∷ r) =
-    cond (eqb a (code "\\")) (literally (literalAt r) (λ k. cedarFrom k r))
-    (cond (eqb a (code "\"") || eqb a (code "\r")) none (beforeRest (a ∷ []) (cedarFrom 0 r)))
+unfoldable pub cedar_from : ℕ → List ℕ → Option (List ℕ)
+cedar_from k [] = some []
+cedar_from (suc k) (a ∷ r) = cedar_from k r
+cedar_from zero (a ∷ r) =
+    cond (eqb a (code "\\")) (literally (literal_at r) (λ k. cedar_from k r))
+    (cond (eqb a (code "\"") || eqb a (code "\r")) none (before_rest (a ∷ []) (cedar_from 0 r)))
 
 abbrev pub cedar : List ℕ → Option (List ℕ)
-cedar s = cedarFrom 0 s
+cedar s = cedar_from 0 s

@@ -10,80 +10,80 @@ use Rattle.escapes.specs.declared.Escape.{Escape}
 use Rattle.escapes.specs.declared.Escape.TheVariants.{Char, Verbatim}
 
 -- the value of a hex digit, of either case
-unfoldable pub hexDigit : ℕ → Option ℕ
-hexDigit b =
+unfoldable pub hex_digit : ℕ → Option ℕ
+hex_digit b =
     cond (within (code "0") (code "9") b) (some (b - code "0"))
     (cond (within (code "a") (code "f") b) (some (b - (code "a" - 10)))
     (cond (within (code "A") (code "F") b) (some (b - (code "A" - 10))) none))
 
 -- go on with a value, where there is one
-abbrev pub digitThen : Option ℕ → (ℕ → Option ℕ) → Option ℕ
-digitThen (some v) f = f v
-digitThen none f = none
+abbrev pub digit_then : Option ℕ → (ℕ → Option ℕ) → Option ℕ
+digit_then (some v) f = f v
+digit_then none f = none
 
 -- the number of hex digits, behind a number that was read
-unfoldable pub digitsFrom : ℕ → List ℕ → Option ℕ
-digitsFrom n [] = some n
-digitsFrom n (b ∷ r) = digitThen (hexDigit b) (λ v. digitsFrom (n * 16 + v) r)
+unfoldable pub digits_from : ℕ → List ℕ → Option ℕ
+digits_from n [] = some n
+digits_from n (b ∷ r) = digit_then (hex_digit b) (λ v. digits_from (n * 16 + v) r)
 
 -- one hex digit or more
-abbrev pub hexNumber : List ℕ → Option ℕ
-hexNumber [] = none
-hexNumber (b ∷ r) = digitsFrom 0 (b ∷ r)
+abbrev pub hex_number : List ℕ → Option ℕ
+hex_number [] = none
+hex_number (b ∷ r) = digits_from 0 (b ∷ r)
 
 -- as Rust's `u32::from_str_radix` of base 16 reads: an optional +, then hex digits
 abbrev pub radix16 : List ℕ → Option ℕ
 radix16 [] = none
-radix16 (b ∷ r) = cond (eqb b (code "+")) (hexNumber r) (hexNumber (b ∷ r))
+radix16 (b ∷ r) = cond (eqb b (code "+")) (hex_number r) (hex_number (b ∷ r))
 
 -- without _
-unfoldable pub withoutUnderscore : List ℕ → List ℕ
-withoutUnderscore [] = []
-withoutUnderscore (b ∷ r) = cond (eqb b (code "_")) (withoutUnderscore r) (b ∷ withoutUnderscore r)
+unfoldable pub without_underscore : List ℕ → List ℕ
+without_underscore [] = []
+without_underscore (b ∷ r) = cond (eqb b (code "_")) (without_underscore r) (b ∷ without_underscore r)
 
 -- a surrogate, or a number past the last code point, names nothing
-abbrev pub ifScalar : Option ℕ → Option ℕ
-ifScalar (some v) = cond (scalar v) (some v) none
-ifScalar none = none
+abbrev pub if_scalar : Option ℕ → Option ℕ
+if_scalar (some v) = cond (scalar v) (some v) none
+if_scalar none = none
 
 -- the scalar value that stands between the braces of \u{..}: no _ first
 unfoldable pub named : List ℕ → Option ℕ
 named [] = none
-named (b ∷ r) = cond (eqb b (code "_")) none (ifScalar (radix16 (withoutUnderscore (b ∷ r))))
+named (b ∷ r) = cond (eqb b (code "_")) none (if_scalar (radix16 (without_underscore (b ∷ r))))
 
 -- b before the bytes, where there are any
-abbrev pub ontoBody : ℕ → Option (List ℕ) → Option (List ℕ)
-ontoBody b (some body) = some (b ∷ body)
-ontoBody b none = none
+abbrev pub onto_body : ℕ → Option (List ℕ) → Option (List ℕ)
+onto_body b (some body) = some (b ∷ body)
+onto_body b none = none
 
 -- the bytes before the first }, or none where it stands nowhere
 unfoldable pub braced : List ℕ → Option (List ℕ)
 braced [] = none
-braced (b ∷ r) = cond (eqb b (code "}")) (some []) (ontoBody b (braced r))
+braced (b ∷ r) = cond (eqb b (code "}")) (some []) (onto_body b (braced r))
 
 -- the character that was named, or what is written
-abbrev pub charOr : Option ℕ → ℕ → Escape
-charOr (some v) n = Char v n
-charOr none n = Verbatim n
+abbrev pub char_or : Option ℕ → ℕ → Escape
+char_or (some v) n = Char v n
+char_or none n = Verbatim n
 
 -- \u{..} with r behind its {: closed, it is its character or stands whole; unclosed, all behind it stands
-abbrev pub unicodeOf : List ℕ → Option (List ℕ) → Escape
-unicodeOf r (some body) = charOr (named body) (2 + suc (length body))
-unicodeOf r none = Verbatim (2 + length r)
+abbrev pub unicode_of : List ℕ → Option (List ℕ) → Escape
+unicode_of r (some body) = char_or (named body) (2 + suc (length body))
+unicode_of r none = Verbatim (2 + length r)
 
 -- \x behind its first digit v: a second one or none
-abbrev pub secondDigit : ℕ → Option ℕ → Escape
-secondDigit v (some w) = Char (v * 16 + w) 3
-secondDigit v none = Char v 2
+abbrev pub second_digit : ℕ → Option ℕ → Escape
+second_digit v (some w) = Char (v * 16 + w) 3
+second_digit v none = Char v 2
 
 -- \x with one hex digit or two; without one it is no escape
-abbrev pub byteOf : Option ℕ → Option ℕ → Escape
-byteOf (some v) second = secondDigit v second
-byteOf none second = Verbatim 0
+abbrev pub byte_of : Option ℕ → Option ℕ → Escape
+byte_of (some v) second = second_digit v second
+byte_of none second = Verbatim 0
 
 -- the short escapes \0 \t \n \r \" \' \\
-unfoldable pub shortOr : ℕ → Escape → Escape
-shortOr b other =
+unfoldable pub short_or : ℕ → Escape → Escape
+short_or b other =
     cond (eqb b (code "0")) (Char 0 1)
     (cond (eqb b (code "t")) (Char (code "\t") 1)
     (cond (eqb b (code "n")) (Char (code "\n") 1)
@@ -93,32 +93,32 @@ shortOr b other =
     (cond (eqb b (code "\\")) (Char (code "\\") 1) other))))))
 
 -- what a backslash with the bytes r behind it begins
-unfoldable pub escapeAt : List ℕ → Escape
-escapeAt r =
-    shortOr (get_or r 0 0)
-    (cond (eqb (get_or r 0 0) (code "x")) (byteOf (hexDigit (get_or r 1 0)) (hexDigit (get_or r 2 0)))
-    (cond (eqb (get_or r 0 0) (code "u") && eqb (get_or r 1 0) (code "{")) (unicodeOf (drop 2 r) (braced (drop 2 r)))
+unfoldable pub escape_at : List ℕ → Escape
+escape_at r =
+    short_or (get_or r 0 0)
+    (cond (eqb (get_or r 0 0) (code "x")) (byte_of (hex_digit (get_or r 1 0)) (hex_digit (get_or r 2 0)))
+    (cond (eqb (get_or r 0 0) (code "u") && eqb (get_or r 1 0) (code "{")) (unicode_of (drop 2 r) (braced (drop 2 r)))
     (Verbatim 0)))
 
 -- what a byte with the bytes r behind it begins: only a backslash begins an escape
-abbrev pub pieceAt : ℕ → List ℕ → Escape
-pieceAt a r = cond (eqb a (code "\\")) (escapeAt r) (Verbatim 0)
+abbrev pub piece_at : ℕ → List ℕ → Escape
+piece_at a r = cond (eqb a (code "\\")) (escape_at r) (Verbatim 0)
 
 -- what it stands for, at the start of s
-abbrev pub standsFor : List ℕ → Escape → List ℕ
-standsFor s (Char v n) = encode v
-standsFor s (Verbatim n) = take (suc n) s
+abbrev pub stands_for : List ℕ → Escape → List ℕ
+stands_for s (Char v n) = encode v
+stands_for s (Verbatim n) = take (suc n) s
 
 -- how many bytes behind the first it takes
-abbrev pub bytesTaken : Escape → ℕ
-bytesTaken (Char v n) = n
-bytesTaken (Verbatim n) = n
+abbrev pub bytes_taken : Escape → ℕ
+bytes_taken (Char v n) = n
+bytes_taken (Verbatim n) = n
 
 -- the text behind its first k bytes, which were read already
-unfoldable pub unescapeFrom : ℕ → List ℕ → List ℕ
-unescapeFrom k [] = []
-unescapeFrom (suc k) (a ∷ r) = unescapeFrom k r
-unescapeFrom zero (a ∷ r) = standsFor (a ∷ r) (pieceAt a r) ++ unescapeFrom (bytesTaken (pieceAt a r)) r
+unfoldable pub unescape_from : ℕ → List ℕ → List ℕ
+unescape_from k [] = []
+unescape_from (suc k) (a ∷ r) = unescape_from k r
+unescape_from zero (a ∷ r) = stands_for (a ∷ r) (piece_at a r) ++ unescape_from (bytes_taken (piece_at a r)) r
 
 abbrev pub unescape : List ℕ → List ℕ
-unescape s = unescapeFrom 0 s
+unescape s = unescape_from 0 s

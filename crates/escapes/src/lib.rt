@@ -6,9 +6,9 @@
 ghost use Rattle.std.specs.Prelude.{◌≡◌, false, ◌+◌, ◌-◌, ◌≤◌, ◌<◌, length, get_or, drop};
 ghost use Rattle.std.proofs.Math.Option.{some};
 ghost use Rattle.buffers.specs.Wrote.{Wrote};
-ghost use Rattle.escapes.specs.Unescape.{hexDigit, byteOf, ifScalar, charOr, escapeAt, unescape};
-ghost use Rattle.escapes.specs.Entry.{decoded, outputAfter};
-ghost use Rattle.escapes.specs.Walk.{plainRun, digitOr, braces, unnamed, numbered, unicodeAt, shortOf};
+ghost use Rattle.escapes.specs.Unescape.{hex_digit, byte_of, if_scalar, char_or, escape_at, unescape};
+ghost use Rattle.escapes.specs.Entry.{decoded, output_after};
+ghost use Rattle.escapes.specs.Walk.{plain_run, digit_or, braces, unnamed, numbered, unicode_at, short_of};
 
 use format::{Log, Refusal};
 
@@ -33,7 +33,7 @@ pub enum Decoded {
 
 // The value of the hex digit at i; 16 where none stands there.
 fn hex_at(s: &[u8], i: usize) -> u32
-    ensures { (hexDigit (get_or s.now i 0) ≡ digitOr result) × (result ≤ 16) }
+    ensures { (hex_digit (get_or s.now i 0) ≡ digit_or result) × (result ≤ 16) }
 {
     if s.len() <= i {
         return 16;
@@ -78,7 +78,7 @@ fn stand(s: &[u8], from: usize, at: usize) -> Escape
 // A number below 0x110000 as a character, unless it is a surrogate.
 fn char_or(v: u32, n: usize) -> Escape
     requires { v < 0x110000 }
-    ensures { result ≡ charOr (ifScalar (some v)) n }
+    ensures { result ≡ char_or (if_scalar (some v)) n }
 {
     if v < 0xd800 {
         return Escape::Char(v, n);
@@ -127,7 +127,7 @@ fn braced_number(s: &[u8], from: usize, at: usize) -> Escape
 // \u{..}, its u at `from`: a _ must not come first, a + may. Without { it is no escape.
 fn unicode_escape(s: &[u8], from: usize) -> Escape
     requires { from < length s.now }
-    ensures { result ≡ unicodeAt (drop from s.now) }
+    ensures { result ≡ unicode_at (drop from s.now) }
 {
     let open = from + 1;
     if s.len() <= open {
@@ -152,7 +152,7 @@ fn unicode_escape(s: &[u8], from: usize) -> Escape
 // \x, its x at `from`: one hex digit or two.
 fn byte_escape(s: &[u8], from: usize) -> Escape
     requires { from < length s.now }
-    ensures { result ≡ byteOf (hexDigit (get_or s.now (from + 1) 0)) (hexDigit (get_or s.now (from + 2) 0)) }
+    ensures { result ≡ byte_of (hex_digit (get_or s.now (from + 1) 0)) (hex_digit (get_or s.now (from + 2) 0)) }
 {
     let v = hex_at(s, from + 1);
     if 16 <= v {
@@ -167,7 +167,7 @@ fn byte_escape(s: &[u8], from: usize) -> Escape
 
 // The code of the short escape whose letter stands at i; 128 where none stands there.
 fn short_at(s: &[u8], i: usize) -> u8
-    ensures { result ≡ shortOf (get_or s.now i 0) }
+    ensures { result ≡ short_of (get_or s.now i 0) }
 {
     if s.len() <= i {
         return 128;
@@ -187,7 +187,7 @@ fn short_at(s: &[u8], i: usize) -> u8
 // What the backslash at `at` begins.
 fn escape_at(s: &[u8], at: usize) -> Escape
     requires { at < length s.now }
-    ensures { result ≡ escapeAt (drop (at + 1) s.now) }
+    ensures { result ≡ escape_at (drop (at + 1) s.now) }
 {
     let next = at + 1;
     if s.len() <= next {
@@ -209,7 +209,7 @@ fn escape_at(s: &[u8], at: usize) -> Escape
 // The place of the first backslash from `from` on, or the text's end.
 fn plain_run(s: &[u8], from: usize) -> usize
     requires { from ≤ length s.now }
-    ensures { result ≡ from + plainRun (drop from s.now) }
+    ensures { result ≡ from + plain_run (drop from s.now) }
 {
     let mut i = from;
     while i < s.len() {
@@ -300,7 +300,7 @@ fn unescaped_length(s: &[u8]) -> usize
 
 // Decodes the escapes of a text into an output.
 pub fn decode(out: &mut [u8], text: &[u8]) -> Decoded
-    ensures { (result ≡ decoded text.now (length out.old)) × (out.new ≡ outputAfter text.now out.old) }
+    ensures { (result ≡ decoded text.now (length out.old)) × (out.new ≡ output_after text.now out.old) }
 {
     if !Log::text_fits(text.len()) {
         return Decoded::Refused(Refusal::TEXT_TOO_LONG);

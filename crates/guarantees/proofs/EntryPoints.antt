@@ -3,15 +3,15 @@
 -- Assumes nothing.
 use mathlib.Core.Path.{◌≡◌}
 use lib.ListN.{length}
-use Rattle.cuts.specs.Body.{cutBody, cutOutput}
+use Rattle.cuts.specs.Body.{cut_body, cut_output}
 use Rattle.cuts.specs.contracts.cut_body
 use Rattle.cuts.proofs.cut_body.Met as CutBody
 use Rattle.cuts.proofs.cut_body.Symbol as CutBodyCode
-use Rattle.escapes.specs.Entry.{decoded, outputAfter}
+use Rattle.escapes.specs.Entry.{decoded, output_after}
 use Rattle.escapes.specs.contracts.decode
 use Rattle.escapes.proofs.decode.Met as Decode
 use Rattle.escapes.proofs.decode.Symbol as DecodeCode
-use Rattle.keys.specs.Entry.{spellKey, spellOutput}
+use Rattle.keys.specs.Entry.{spell_key, spell_output}
 use Rattle.keys.specs.contracts.spell_key
 use Rattle.keys.proofs.spell_key.Met as SpellKey
 use Rattle.keys.proofs.spell_key.Symbol as SpellKeyCode
@@ -27,7 +27,7 @@ use Rattle.listing.specs.Entry as Listing
 use Rattle.listing.specs.contracts.list_line
 use Rattle.listing.proofs.list_line.Met as ListLine
 use Rattle.listing.proofs.list_line.Symbol as ListLineCode
-use Rattle.log_listing.specs.Stretch.{stretchAt, StretchWhole, Onward}
+use Rattle.log_listing.specs.Stretch.{stretch_at, StretchWhole, Onward}
 use Rattle.log_listing.specs.contracts.next_stretch
 use Rattle.log_listing.proofs.next_stretch.Met as NextStretch
 use Rattle.log_listing.proofs.next_stretch.Symbol as NextStretchCode
@@ -38,50 +38,50 @@ use Rattle.merging.proofs.merge.Symbol as MergeCode
 use Rattle.guarantees.specs.Promised.{Promised, PromisedBoth}
 
 -- 1. Decode escapes: `decode(out, text)`. The answer is what `decoded` says of the text and the output's length; the whole output is then
--- what `outputAfter` says.
-pub decode-promised : {M : Type 1} → Promised decode.ended DecodeCode.code DecodeCode.name M (λ κs a r s.
-    (r ≡ decoded a.1.0.now (length a.0.now)) × (s.0.now ≡ outputAfter a.1.0.now a.0.now))
-decode-promised = Decode.met
+-- what `output_after` says.
+pub decode_promised : {M : Type 1} → Promised decode.ended DecodeCode.code DecodeCode.name M (λ κs a r s.
+    (r ≡ decoded a.1.0.now (length a.0.now)) × (s.0.now ≡ output_after a.1.0.now a.0.now))
+decode_promised = Decode.met
 
 -- 2. Spell a key: `spell_key(out, ty, id)`. The same, for a type text and a decoded id.
-pub spell-key-promised : {M : Type 1} → PromisedBoth spell_key.ended SpellKeyCode.code SpellKeyCode.name M
-    (λ κs a r s. r ≡ spellKey a.1.0.now a.1.1.0.now (length a.0.now))
-    (λ κs a r s. s.0.now ≡ spellOutput r a.1.0.now a.1.1.0.now a.0.now)
-spell-key-promised = SpellKey.met
+pub spell_key_promised : {M : Type 1} → PromisedBoth spell_key.ended SpellKeyCode.code SpellKeyCode.name M
+    (λ κs a r s. r ≡ spell_key a.1.0.now a.1.1.0.now (length a.0.now))
+    (λ κs a r s. s.0.now ≡ spell_output r a.1.0.now a.1.1.0.now a.0.now)
+spell_key_promised = SpellKey.met
 
 -- 3. Cut a body at its commas: `cut_body(out, s)`. The same, for the places of the commas that cut.
-pub cut-body-promised : {M : Type 1} → PromisedBoth cut_body.ended CutBodyCode.code CutBodyCode.name M
-    (λ κs a r s. r ≡ cutBody a.1.0.now (length a.0.now))
-    (λ κs a r s. s.0.now ≡ cutOutput r a.1.0.now a.0.now)
-cut-body-promised = CutBody.met
+pub cut_body_promised : {M : Type 1} → PromisedBoth cut_body.ended CutBodyCode.code CutBodyCode.name M
+    (λ κs a r s. r ≡ cut_body a.1.0.now (length a.0.now))
+    (λ κs a r s. s.0.now ≡ cut_output r a.1.0.now a.0.now)
+cut_body_promised = CutBody.met
 
 -- 4. Read one line into a pack: `read_line(kinds, numbers, texts, line)`. `LineWhole` gives the answer, and every entry of the three tables.
-pub read-line-promised : {M : Type 1} → Promised read_line.ended ReadLineCode.code ReadLineCode.name M (λ κs a r s.
+pub read_line_promised : {M : Type 1} → Promised read_line.ended ReadLineCode.code ReadLineCode.name M (λ κs a r s.
     LineWhole a.1.1.1.0.now a.0.now a.1.0.now a.1.1.0.now r s.0.now s.1.0.now s.1.1.0.now)
-read-line-promised = ReadLine.met
+read_line_promised = ReadLine.met
 
 -- 5. Judge a log: `judge(kinds, numbers, texts, log)`. The same, with `JudgeWhole`.
-pub judge-promised : {M : Type 1} → Promised judge.ended JudgeCode.code JudgeCode.name M (λ κs a r s.
+pub judge_promised : {M : Type 1} → Promised judge.ended JudgeCode.code JudgeCode.name M (λ κs a r s.
     Judge.JudgeWhole a.1.1.1.0.now a.0.now a.1.0.now a.1.1.0.now r s.0.now s.1.0.now s.1.1.0.now)
-judge-promised = JudgeLog.met
+judge_promised = JudgeLog.met
 
 -- 6. List one line's event: `list_line(kinds, numbers, texts, out, line, number)`. The same, with `ListWhole`, which gives every
 -- byte of the output too.
-pub list-line-promised : {M : Type 1} → Promised list_line.ended ListLineCode.code ListLineCode.name M (λ κs a r s.
+pub list_line_promised : {M : Type 1} → Promised list_line.ended ListLineCode.code ListLineCode.name M (λ κs a r s.
     Listing.ListWhole a.1.1.1.1.0.now a.1.1.1.1.1.0 a.0.now a.1.0.now a.1.1.0.now a.1.1.1.0.now r
     s.0.now s.1.0.now s.1.1.0.now s.1.1.1.0.now)
-list-line-promised = ListLine.met
+list_line_promised = ListLine.met
 
 -- 7. The next stretch of a log's night listing, which the program calls: `next_stretch(kinds, numbers, texts, links, scratch, order, spare,
 -- out, log, place)`. `Written` gives the answer, and every byte of the output; `Onward` what a loop over the calls needs.
-pub next-stretch-promised : {M : Type 1} → PromisedBoth next_stretch.ended NextStretchCode.code NextStretchCode.name M
-    (λ κs a r s. StretchWhole (stretchAt a.1.1.1.1.1.1.1.1.0.now a.1.1.1.1.1.1.1.1.1.0) a.1.1.1.1.1.1.1.0.now r s.1.1.1.1.1.1.1.0.now)
+pub next_stretch_promised : {M : Type 1} → PromisedBoth next_stretch.ended NextStretchCode.code NextStretchCode.name M
+    (λ κs a r s. StretchWhole (stretch_at a.1.1.1.1.1.1.1.1.0.now a.1.1.1.1.1.1.1.1.1.0) a.1.1.1.1.1.1.1.0.now r s.1.1.1.1.1.1.1.0.now)
     (λ κs a r s. Onward a.1.1.1.1.1.1.1.1.0.now a.1.1.1.1.1.1.1.1.1.0 r s.1.1.1.1.1.1.1.0.now)
-next-stretch-promised = NextStretch.met
+next_stretch_promised = NextStretch.met
 
 -- 8. Merge two logs: `merge(kinds, numbers, texts, out, first, second)`. `MergeWhole` gives the answer, every entry of the three
 -- tables and every byte of the output.
-pub merge-promised : {M : Type 1} → Promised merge.ended MergeCode.code MergeCode.name M (λ κs a r s.
+pub merge_promised : {M : Type 1} → Promised merge.ended MergeCode.code MergeCode.name M (λ κs a r s.
     Merge.MergeWhole a.1.1.1.1.0.now a.1.1.1.1.1.0.now a.0.now a.1.0.now a.1.1.0.now a.1.1.1.0.now r
     s.0.now s.1.0.now s.1.1.0.now s.1.1.1.0.now)
-merge-promised = MergeLogs.met
+merge_promised = MergeLogs.met

@@ -12,18 +12,18 @@ use lib.Dec.{T, ltb}
 use lib.Signed.{lt_z, ◌≤ℤ◌, lt_z_yes, lt_z_no, clash_ℤ}
 use borrow.Author.Tests.{ltb-true, ltb-false, lt-ltb, le-ltb}
 use Rattle.numbers.specs.Twos.{untwos}
-use Rattle.sorting.specs.Order.{precedes, Each, Ascends, ofKey}
-use Rattle.sorting.specs.Merge.{mergeBy}
-use Rattle.sorting.proofs.EachLaws.{each_both, each_append, each-permuted}
-use Rattle.sorting.proofs.Sorted.{sort-permutes, sort-ascends, sort-fixed, of-key-append, sort-stable}
-use Rattle.sorting.proofs.MergeLaws.{merge-sorted, merge_keeps}
-use Rattle.events.specs.Answer.{Answer, event, blank, refused, lineAnswer}
-use Rattle.events.proofs.Answers.{time-small}
-use Rattle.logs.specs.Events.{EventLine, gathered, gather, eventLines}
-use Rattle.event_lines.specs.Time.{rank, timeKey, fallFrom, fallIn}
-use Rattle.merging.specs.Merge.{mergedLines}
-use Rattle.event_lines.proofs.Falls.{precedes-one, lines-ascend, lines-no-fall}
-use Rattle.guarantees.specs.Merging.{signedTime, Rises, Subsequence}
+use Rattle.sorting.specs.Order.{precedes, Each, Ascends, of_key}
+use Rattle.sorting.specs.Merge.{merge_by}
+use Rattle.sorting.proofs.EachLaws.{each_both, each_append, each_permuted}
+use Rattle.sorting.proofs.Sorted.{sort_permutes, sort_ascends, sort_fixed, of_key_append, sort_stable}
+use Rattle.sorting.proofs.MergeLaws.{merge_sorted, merge_keeps}
+use Rattle.events.specs.Answer.{Answer, event, blank, refused, line_answer}
+use Rattle.events.proofs.Answers.{time_small}
+use Rattle.logs.specs.Events.{EventLine, gathered, gather, event_lines}
+use Rattle.event_lines.specs.Time.{rank, time_key, fall_from, fall_in}
+use Rattle.merging.specs.Merge.{merged_lines}
+use Rattle.event_lines.proofs.Falls.{precedes_one, lines_ascend, lines_no_fall}
+use Rattle.guarantees.specs.Merging.{signed_time, Rises, Subsequence}
 
 -- ---- ranks and integers
 
@@ -35,8 +35,8 @@ same_test a b c d f g = go (ltb a b) refl
     go false e = sym (le-ltb c d (g (ltb-false a b e)))
 
 module _ (a b : ℕ) (small-a : a < 2 ^ 64) (small_b : b < 2 ^ 64) where
-  pub rank-order : ltb (rank a) (rank b) ≡ lt_z (untwos a) (untwos b)
-  rank-order = go (ltb a (2 ^ 63)) refl (ltb b (2 ^ 63)) refl
+  pub rank_order : ltb (rank a) (rank b) ≡ lt_z (untwos a) (untwos b)
+  rank_order = go (ltb a (2 ^ 63)) refl (ltb b (2 ^ 63)) refl
     where
       go : (s : Bool) → ltb a (2 ^ 63) ≡ s → (t : Bool) → ltb b (2 ^ 63) ≡ t → ltb (rank a) (rank b) ≡ lt_z (untwos a) (untwos b)
       go true p true q =
@@ -58,75 +58,75 @@ module _ (a b : ℕ) (small-a : a < 2 ^ 64) (small_b : b < 2 ^ 64) where
 
 -- ---- what holds of each line of both logs holds of each merged line
 
-pub each-merged : (P : EventLine → Type 0) (f s : List ℕ) → Each P (eventLines f) → Each P (eventLines s) → Each P (mergedLines f s)
-unfolding mergedLines
-each-merged P f s g h = each-permuted P (Permᴰ.symm (sort-permutes timeKey (eventLines f ++ eventLines s))) (each_append P (eventLines f) (eventLines s) g h)
+pub each_merged : (P : EventLine → Type 0) (f s : List ℕ) → Each P (event_lines f) → Each P (event_lines s) → Each P (merged_lines f s)
+unfolding merged_lines
+each_merged P f s g h = each_permuted P (Permᴰ.symm (sort_permutes time_key (event_lines f ++ event_lines s))) (each_append P (event_lines f) (event_lines s) g h)
 
 -- ---- the times rise
 
 abbrev SmallRank : EventLine → Type 0
 SmallRank l = l.event.time < 2 ^ 64
 
-gathered-small : (xs : List (List ℕ)) → Each SmallRank (gather lineAnswer xs)
+gathered_small : (xs : List (List ℕ)) → Each SmallRank (gather line_answer xs)
 unfolding gather Each
-gathered-small [] = tt
-gathered-small (x ∷ xs) = go (lineAnswer x) refl (gathered-small xs)
+gathered_small [] = tt
+gathered_small (x ∷ xs) = go (line_answer x) refl (gathered_small xs)
   where
-    go : (a : Answer) → lineAnswer x ≡ a → Each SmallRank (gather lineAnswer xs) → Each SmallRank (gathered x a (gather lineAnswer xs))
-    go (event e) h rest = (time-small x e h, rest)
+    go : (a : Answer) → line_answer x ≡ a → Each SmallRank (gather line_answer xs) → Each SmallRank (gathered x a (gather line_answer xs))
+    go (event e) h rest = (time_small x e h, rest)
     go blank h rest = rest
     go (refused n) h rest = rest
 
 -- of two lines, the later one's key does not come first just where its time is not below
 module _ (l k : EventLine) (small-l : SmallRank l) (small-k : SmallRank k) where
-  keys-order : precedes (timeKey k) (timeKey l) ≡ lt_z (signedTime k) (signedTime l)
-  keys-order = precedes-one _ _ ∙ rank-order k.event.time l.event.time small-k small-l
+  keys_order : precedes (time_key k) (time_key l) ≡ lt_z (signed_time k) (signed_time l)
+  keys_order = precedes_one _ _ ∙ rank_order k.event.time l.event.time small-k small-l
 
-  not-above : precedes (timeKey k) (timeKey l) ≡ false → signedTime l ≤ℤ signedTime k
-  not-above e = lt_z_no (subst (λ (t : Bool). T (not t)) (sym e ∙ keys-order) tt)
+  not_above : precedes (time_key k) (time_key l) ≡ false → signed_time l ≤ℤ signed_time k
+  not_above e = lt_z_no (subst (λ (t : Bool). T (not t)) (sym e ∙ keys_order) tt)
 
-  not_first : signedTime l ≤ℤ signedTime k → precedes (timeKey k) (timeKey l) ≡ false
-  not_first h = keys-order ∙ go (lt_z (signedTime k) (signedTime l)) refl
+  not_first : signed_time l ≤ℤ signed_time k → precedes (time_key k) (time_key l) ≡ false
+  not_first h = keys_order ∙ go (lt_z (signed_time k) (signed_time l)) refl
     where
-      go : (t : Bool) → lt_z (signedTime k) (signedTime l) ≡ t → t ≡ false
-      go true e = clash_ℤ (lt_z_yes {a = signedTime k} {b = signedTime l} (subst T (sym e) tt)) h
+      go : (t : Bool) → lt_z (signed_time k) (signed_time l) ≡ t → t ≡ false
+      go true e = clash_ℤ (lt_z_yes {a = signed_time k} {b = signed_time l} (subst T (sym e) tt)) h
       go false e = refl
 
-ascends-rises : (ls : List EventLine) → Each SmallRank ls → Ascends timeKey ls → Rises ls
+ascends_rises : (ls : List EventLine) → Each SmallRank ls → Ascends time_key ls → Rises ls
 unfolding Each Ascends Rises
-ascends-rises [] small h = tt
-ascends-rises (l ∷ ls) small h = (each_both SmallRank _ _ (λ k s. not-above l k small.0 s) ls small.1 h.0, ascends-rises ls small.1 h.1)
+ascends_rises [] small h = tt
+ascends_rises (l ∷ ls) small h = (each_both SmallRank _ _ (λ k s. not_above l k small.0 s) ls small.1 h.0, ascends_rises ls small.1 h.1)
 
-rises-ascends : (ls : List EventLine) → Each SmallRank ls → Rises ls → Ascends timeKey ls
+rises_ascends : (ls : List EventLine) → Each SmallRank ls → Rises ls → Ascends time_key ls
 unfolding Each Ascends Rises
-rises-ascends [] small h = tt
-rises-ascends (l ∷ ls) small h = (each_both SmallRank _ _ (λ k s. not_first l k small.0 s) ls small.1 h.0, rises-ascends ls small.1 h.1)
+rises_ascends [] small h = tt
+rises_ascends (l ∷ ls) small h = (each_both SmallRank _ _ (λ k s. not_first l k small.0 s) ls small.1 h.0, rises_ascends ls small.1 h.1)
 
 -- of lines that are read one after the other, no time falls just where they rise
-pub lines-rise : (xs : List (List ℕ)) → (fallFrom 1 0 xs ≡ 0) ↔ Rises (gather lineAnswer xs)
-lines-rise xs = (
-  (λ h. ascends-rises (gather lineAnswer xs) (gathered-small xs) (lines-ascend xs h)),
-  (λ h. lines-no-fall xs (rises-ascends (gather lineAnswer xs) (gathered-small xs) h)),
+pub lines_rise : (xs : List (List ℕ)) → (fall_from 1 0 xs ≡ 0) ↔ Rises (gather line_answer xs)
+lines_rise xs = (
+  (λ h. ascends_rises (gather line_answer xs) (gathered_small xs) (lines_ascend xs h)),
+  (λ h. lines_no_fall xs (rises_ascends (gather line_answer xs) (gathered_small xs) h)),
 )
 
-pub merged-ascends : (f s : List ℕ) → Ascends timeKey (mergedLines f s)
-unfolding mergedLines
-merged-ascends f s = sort-ascends timeKey (eventLines f ++ eventLines s)
+pub merged_ascends : (f s : List ℕ) → Ascends time_key (merged_lines f s)
+unfolding merged_lines
+merged_ascends f s = sort_ascends time_key (event_lines f ++ event_lines s)
 
-pub merged-rises : (f s : List ℕ) → Rises (mergedLines f s)
-merged-rises f s = ascends-rises (mergedLines f s) (each-merged SmallRank f s (gathered-small _) (gathered-small _)) (merged-ascends f s)
+pub merged_rises : (f s : List ℕ) → Rises (merged_lines f s)
+merged_rises f s = ascends_rises (merged_lines f s) (each_merged SmallRank f s (gathered_small _) (gathered_small _)) (merged_ascends f s)
 
 -- ---- the first log's lines first
 
 module _ (f s : List ℕ) where
-  pub merged-stable : (k : List ℕ) → ofKey timeKey k (mergedLines f s) ≡ ofKey timeKey k (eventLines f) ++ ofKey timeKey k (eventLines s)
-  unfolding mergedLines
-  merged-stable k = sort-stable timeKey k (eventLines f ++ eventLines s) ∙ of-key-append timeKey k (eventLines f) (eventLines s)
+  pub merged_stable : (k : List ℕ) → of_key time_key k (merged_lines f s) ≡ of_key time_key k (event_lines f) ++ of_key time_key k (event_lines s)
+  unfolding merged_lines
+  merged_stable k = sort_stable time_key k (event_lines f ++ event_lines s) ∙ of_key_append time_key k (event_lines f) (event_lines s)
 
-  module _ (g : fallIn f ≡ 0) (h : fallIn s ≡ 0) where
-    merged-runs : mergedLines f s ≡ mergeBy timeKey (eventLines f) (eventLines s)
-    unfolding mergedLines
-    merged-runs = rw (sort-fixed timeKey (eventLines f) (lines-ascend _ g), sort-fixed timeKey (eventLines s) (lines-ascend _ h)) at (sym (merge-sorted timeKey (eventLines f) (eventLines s)))
+  module _ (g : fall_in f ≡ 0) (h : fall_in s ≡ 0) where
+    merged_runs : merged_lines f s ≡ merge_by time_key (event_lines f) (event_lines s)
+    unfolding merged_lines
+    merged_runs = rw (sort_fixed time_key (event_lines f) (lines_ascend _ g), sort_fixed time_key (event_lines s) (lines_ascend _ h)) at (sym (merge_sorted time_key (event_lines f) (event_lines s)))
 
-    pub merged_keeps : Subsequence (eventLines f) (mergedLines f s) × Subsequence (eventLines s) (mergedLines f s)
-    merged_keeps = rw merged-runs (merge_keeps timeKey (eventLines f) (eventLines s))
+    pub merged_keeps : Subsequence (event_lines f) (merged_lines f s) × Subsequence (event_lines s) (merged_lines f s)
+    merged_keeps = rw merged_runs (merge_keeps time_key (event_lines f) (event_lines s))

@@ -1,9 +1,9 @@
 -- Document 01's proof set, one theorem over all twelve facts.
 -- Assumes nothing.
-use Rattle.cuts.proofs.Examples.{body-places, empty-pieces, below-zero}
-use Rattle.escapes.proofs.Examples.{fact-1, fact-2, fact-3, fact-4}
+use Rattle.cuts.proofs.Examples.{body_places, empty_pieces, below_zero}
+use Rattle.escapes.proofs.Examples.{fact_1, fact_2, fact_3, fact_4}
 use Rattle.guarantees.specs.ProofSet.{ProofSet}
-use Rattle.guarantees.proofs.Facts.{out_of_order, one_key, values-read}
+use Rattle.guarantees.proofs.Facts.{out_of_order, one_key, values_read}
 
-pub proof-set : ProofSet
-proof-set = (fact-1, fact-2, fact-3, fact-4, empty-pieces, body-places, below-zero, out_of_order, one_key, values-read.0, values-read.1, values-read.2)
+pub proof_set : ProofSet
+proof_set = (fact_1, fact_2, fact_3, fact_4, empty_pieces, body_places, below_zero, out_of_order, one_key, values_read.0, values_read.1, values_read.2)

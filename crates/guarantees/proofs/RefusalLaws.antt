@@ -7,193 +7,193 @@ use Prim.Native.Nat.{ℕ, zero, suc}
 use borrow.Author.Tests.{leb-true, eq-eqb}
 use lib.Dec.{leb, eqb}
 use lib.ListN.{length}
-use Rattle.buffers.proofs.Choice.{by_cond, both-arms, or_left, or_right}
-use Rattle.format.specs.Limits.{textLimit, lineLimit}
-use Rattle.format.specs.Refusals.{textTooLong, notUtf8, timesFallInFirst, timesFallInSecond}
+use Rattle.buffers.proofs.Choice.{by_cond, both_arms, or_left, or_right}
+use Rattle.format.specs.Limits.{text_limit, line_limit}
+use Rattle.format.specs.Refusals.{text_too_long, not_utf8, times_fall_in_first, times_fall_in_second}
 use Rattle.chars.specs.Utf8.{utf8}
-use Rattle.cuts.specs.Body.{cutBody}
-use Rattle.cuts.specs.Split.{cutPlaces}
+use Rattle.cuts.specs.Body.{cut_body}
+use Rattle.cuts.specs.Split.{cut_places}
 use Rattle.cuts.specs.declared.Cut.{Cut}
 use Rattle.cuts.specs.declared.Cut.TheVariants as Cut
 use Rattle.escapes.specs.Entry.{decoded}
 use Rattle.escapes.specs.Unescape.{unescape}
 use Rattle.escapes.specs.declared.Decoded.{Decoded}
 use Rattle.escapes.specs.declared.Decoded.TheVariants as Decoded
-use Rattle.keys.specs.Entry.{spellKey}
-use Rattle.keys.specs.Escape.{pinned, entityUid}
+use Rattle.keys.specs.Entry.{spell_key}
+use Rattle.keys.specs.Escape.{pinned, entity_uid}
 use Rattle.keys.specs.declared.Spelled.{Spelled}
 use Rattle.keys.specs.declared.Spelled.TheVariants as Spelled
 use Rattle.pack.specs.Pack.{Pack}
-use Rattle.events.specs.Answer.{Answer, event, blank, refused, readLine}
-use Rattle.events.proofs.OutcomeLaws.{isIn, allIn, in_all, is_member}
-use Rattle.events.proofs.LineOutcomes.{readRefusals, read-refused}
-use Rattle.lines.specs.Entry.{lineReadOf, enough}
+use Rattle.events.specs.Answer.{Answer, event, blank, refused, read_line}
+use Rattle.events.proofs.OutcomeLaws.{is_in, all_in, in_all, is_member}
+use Rattle.events.proofs.LineOutcomes.{read_refusals, read_refused}
+use Rattle.lines.specs.Entry.{line_read_of, enough}
 use Rattle.lines.specs.declared.LineRead.{LineRead}
 use Rattle.lines.specs.declared.LineRead.TheVariants as LineRead
-use Rattle.logs.specs.Judge.{judgeLog}
+use Rattle.logs.specs.Judge.{judge_log}
 use Rattle.logs.specs.Judge as Judge
 use Rattle.logs.specs.declared.Judged.{Judged}
 use Rattle.logs.specs.declared.Judged.TheVariants as Judged
-use Rattle.listing.specs.Lines.{listEvent}
-use Rattle.listing.specs.Entry.{listAnswer}
+use Rattle.listing.specs.Lines.{list_event}
+use Rattle.listing.specs.Entry.{list_answer}
 use Rattle.listing.specs.Entry as Listing
 use Rattle.listing.specs.declared.Listed.{Listed}
 use Rattle.listing.specs.declared.Listed.TheVariants as Listed
-use Rattle.event_lines.specs.Time.{fallIn}
-use Rattle.merging.specs.Merge.{mergedText, unlessRefused, unlessFalls, mergeLogs}
+use Rattle.event_lines.specs.Time.{fall_in}
+use Rattle.merging.specs.Merge.{merged_text, unless_refused, unless_falls, merge_logs}
 use Rattle.merging.specs.Merge as Merge
 use Rattle.merging.specs.declared.Merged.{Merged}
 use Rattle.merging.specs.declared.Merged.TheVariants as Merged
-use Rattle.guarantees.specs.Lines.{logLines, lineNumbered}
+use Rattle.guarantees.specs.Lines.{log_lines, line_numbered}
 use Rattle.guarantees.specs.Calls.{ReadInto}
-use Rattle.guarantees.specs.RefusalTable.{OneOf, refusalTable, decodeRows, spellKeyRows, cutBodyRows, readLineRows, judgeRows, listLineRows, mergeRows, RowsOfTheTable}
-use Rattle.guarantees.proofs.Agreement.{refused-iff}
+use Rattle.guarantees.specs.RefusalTable.{OneOf, refusal_table, decode_rows, spell_key_rows, cut_body_rows, read_line_rows, judge_rows, list_line_rows, merge_rows, RowsOfTheTable}
+use Rattle.guarantees.proofs.Agreement.{refused_iff}
 
 -- ---- texts alone
 
 abbrev DecodedIn : Decoded → Type 0
 DecodedIn (Decoded.Written n) = Unit {0}
-DecodedIn (Decoded.Refused n) = isIn n decodeRows ≡ true
+DecodedIn (Decoded.Refused n) = is_in n decode_rows ≡ true
 
-decode-in : (text : List ℕ) (room : ℕ) → DecodedIn (decoded text room)
-unfolding decoded isIn
-decode-in text room =
-    both-arms DecodedIn (leb (length text) textLimit) (both-arms DecodedIn (utf8 text) (both-arms DecodedIn (leb (length (unescape text)) room) tt refl) refl) refl
+decode_in : (text : List ℕ) (room : ℕ) → DecodedIn (decoded text room)
+unfolding decoded is_in
+decode_in text room =
+    both_arms DecodedIn (leb (length text) text_limit) (both_arms DecodedIn (utf8 text) (both_arms DecodedIn (leb (length (unescape text)) room) tt refl) refl) refl
 
-pub decode-refusals : (text : List ℕ) (room : ℕ) {n : ℕ} → decoded text room ≡ Decoded.Refused n → OneOf decodeRows n
-decode-refusals text room {n} h = is_member n decodeRows (subst DecodedIn h (decode-in text room))
+pub decode_refusals : (text : List ℕ) (room : ℕ) {n : ℕ} → decoded text room ≡ Decoded.Refused n → OneOf decode_rows n
+decode_refusals text room {n} h = is_member n decode_rows (subst DecodedIn h (decode_in text room))
 
 abbrev SpelledIn : Spelled → Type 0
 SpelledIn (Spelled.Written n) = Unit {0}
-SpelledIn (Spelled.Refused n) = isIn n spellKeyRows ≡ true
+SpelledIn (Spelled.Refused n) = is_in n spell_key_rows ≡ true
 
-spell-in : (ty id : List ℕ) (room : ℕ) → SpelledIn (spellKey ty id room)
-unfolding spellKey isIn
-spell-in ty id room =
-    both-arms SpelledIn (leb (length ty) textLimit && leb (length id) textLimit)
-    (both-arms SpelledIn (utf8 ty && utf8 id)
-    (both-arms SpelledIn (leb (length ty) lineLimit && leb (length id) lineLimit)
-    (both-arms SpelledIn (leb (length (entityUid pinned ty id)) room) tt refl) refl) refl) refl
+spell_in : (ty id : List ℕ) (room : ℕ) → SpelledIn (spell_key ty id room)
+unfolding spell_key is_in
+spell_in ty id room =
+    both_arms SpelledIn (leb (length ty) text_limit && leb (length id) text_limit)
+    (both_arms SpelledIn (utf8 ty && utf8 id)
+    (both_arms SpelledIn (leb (length ty) line_limit && leb (length id) line_limit)
+    (both_arms SpelledIn (leb (length (entity_uid pinned ty id)) room) tt refl) refl) refl) refl
 
-pub spell-key-refusals : (ty id : List ℕ) (room : ℕ) {n : ℕ} → spellKey ty id room ≡ Spelled.Refused n → OneOf spellKeyRows n
-spell-key-refusals ty id room {n} h = is_member n spellKeyRows (subst SpelledIn h (spell-in ty id room))
+pub spell_key_refusals : (ty id : List ℕ) (room : ℕ) {n : ℕ} → spell_key ty id room ≡ Spelled.Refused n → OneOf spell_key_rows n
+spell_key_refusals ty id room {n} h = is_member n spell_key_rows (subst SpelledIn h (spell_in ty id room))
 
 abbrev CutIn : Cut → Type 0
 CutIn (Cut.Places n) = Unit {0}
-CutIn (Cut.Refused n) = isIn n cutBodyRows ≡ true
+CutIn (Cut.Refused n) = is_in n cut_body_rows ≡ true
 
-cut_in : (body : List ℕ) (room : ℕ) → CutIn (cutBody body room)
-unfolding cutBody isIn
+cut_in : (body : List ℕ) (room : ℕ) → CutIn (cut_body body room)
+unfolding cut_body is_in
 cut_in body room =
-    both-arms CutIn (leb (length body) textLimit)
-    (both-arms CutIn (utf8 body)
-    (both-arms CutIn (leb (length body) lineLimit) (both-arms CutIn (leb (length (cutPlaces body)) room) tt refl) refl) refl) refl
+    both_arms CutIn (leb (length body) text_limit)
+    (both_arms CutIn (utf8 body)
+    (both_arms CutIn (leb (length body) line_limit) (both_arms CutIn (leb (length (cut_places body)) room) tt refl) refl) refl) refl
 
-pub cut-body-refusals : (body : List ℕ) (room : ℕ) {n : ℕ} → cutBody body room ≡ Cut.Refused n → OneOf cutBodyRows n
-cut-body-refusals body room {n} h = is_member n cutBodyRows (subst CutIn h (cut_in body room))
+pub cut_body_refusals : (body : List ℕ) (room : ℕ) {n : ℕ} → cut_body body room ≡ Cut.Refused n → OneOf cut_body_rows n
+cut_body_refusals body room {n} h = is_member n cut_body_rows (subst CutIn h (cut_in body room))
 
 -- ---- a line
 
 -- whatever rows hold those of reading
-module _ (ns : List ℕ) (w : allIn readRefusals ns ≡ true) where
-  read-in : (s : List ℕ) (n : ℕ) → readLine s ≡ refused n → isIn n ns ≡ true
-  read-in s n h = in_all n readRefusals ns w (read-refused s n h)
+module _ (ns : List ℕ) (w : all_in read_refusals ns ≡ true) where
+  read_in : (s : List ℕ) (n : ℕ) → read_line s ≡ refused n → is_in n ns ≡ true
+  read_in s n h = in_all n read_refusals ns w (read_refused s n h)
 
 abbrev LineIn : LineRead → Type 0
 LineIn (LineRead.Event f) = Unit {0}
 LineIn LineRead.Blank = Unit {0}
-LineIn (LineRead.Refused n) = isIn n readLineRows ≡ true
+LineIn (LineRead.Refused n) = is_in n read_line_rows ≡ true
 
-answer-in : (a : Answer) → ((n : ℕ) → a ≡ refused n → isIn n readLineRows ≡ true) → LineIn (lineReadOf a)
-answer-in (event e) h = tt
-answer-in blank h = tt
-answer-in (refused n) h = h n refl
+answer_in : (a : Answer) → ((n : ℕ) → a ≡ refused n → is_in n read_line_rows ≡ true) → LineIn (line_read_of a)
+answer_in (event e) h = tt
+answer_in blank h = tt
+answer_in (refused n) h = h n refl
 
-pub read-line-refusals : {s : List ℕ} {p q : Pack} {n : ℕ} → ReadInto s p (LineRead.Refused n) q → OneOf readLineRows n
-unfolding isIn allIn
-read-line-refusals {s} {p} {q} {n} w = is_member n readLineRows (subst LineIn (sym w.answer)
-    (both-arms LineIn (enough p.kinds p.numbers p.texts) (answer-in (readLine s) (read-in readLineRows refl s)) refl))
+pub read_line_refusals : {s : List ℕ} {p q : Pack} {n : ℕ} → ReadInto s p (LineRead.Refused n) q → OneOf read_line_rows n
+unfolding is_in all_in
+read_line_refusals {s} {p} {q} {n} w = is_member n read_line_rows (subst LineIn (sym w.answer)
+    (both_arms LineIn (enough p.kinds p.numbers p.texts) (answer_in (read_line s) (read_in read_line_rows refl s)) refl))
 
 abbrev ListedIn : Listed → Type 0
 ListedIn (Listed.Written n) = Unit {0}
 ListedIn Listed.Blank = Unit {0}
-ListedIn (Listed.Refused n) = isIn n listLineRows ≡ true
+ListedIn (Listed.Refused n) = is_in n list_line_rows ≡ true
 
-list-in : (number room : ℕ) (a : Answer) → ((n : ℕ) → a ≡ refused n → isIn n listLineRows ≡ true) → ListedIn (listAnswer number room a)
-unfolding isIn
-list-in number room (event e) h = both-arms ListedIn (leb (length (listEvent number e)) room) tt refl
-list-in number room blank h = tt
-list-in number room (refused n) h = h n refl
+list_in : (number room : ℕ) (a : Answer) → ((n : ℕ) → a ≡ refused n → is_in n list_line_rows ≡ true) → ListedIn (list_answer number room a)
+unfolding is_in
+list_in number room (event e) h = both_arms ListedIn (leb (length (list_event number e)) room) tt refl
+list_in number room blank h = tt
+list_in number room (refused n) h = h n refl
 
-pub list-line-refusals : {s k n t out k' n' t' out' : List ℕ} {number x : ℕ} → Listing.ListWhole s number k n t out (Listed.Refused x) k' n' t' out' → OneOf listLineRows x
-unfolding isIn allIn
-list-line-refusals {s} {k} {n} {t} {out} {number = number} {x} w = is_member x listLineRows (subst ListedIn (sym w.answer)
-    (both-arms ListedIn (enough k n t) (list-in number (length out) (readLine s) (read-in listLineRows refl s)) refl))
+pub list_line_refusals : {s k n t out k' n' t' out' : List ℕ} {number x : ℕ} → Listing.ListWhole s number k n t out (Listed.Refused x) k' n' t' out' → OneOf list_line_rows x
+unfolding is_in all_in
+list_line_refusals {s} {k} {n} {t} {out} {number = number} {x} w = is_member x list_line_rows (subst ListedIn (sym w.answer)
+    (both_arms ListedIn (enough k n t) (list_in number (length out) (read_line s) (read_in list_line_rows refl s)) refl))
 
 -- ---- logs
 
 -- a log is refused as a whole, or as one of its lines is
-module _ (ns : List ℕ) (w : allIn readRefusals ns ≡ true) (long : isIn textTooLong ns ≡ true) (bad : isIn notUtf8 ns ≡ true) where
+module _ (ns : List ℕ) (w : all_in read_refusals ns ≡ true) (long : is_in text_too_long ns ≡ true) (bad : is_in not_utf8 ns ≡ true) where
   abbrev JudgedIn : Judged → Type 0
-  JudgedIn j = (x line : ℕ) → j ≡ Judged.Refused x line → isIn x ns ≡ true
+  JudgedIn j = (x line : ℕ) → j ≡ Judged.Refused x line → is_in x ns ≡ true
 
-  whole : (y : ℕ) → isIn y ns ≡ true → JudgedIn (Judged.Refused y 0)
-  whole y i x line h = let z : y ≡ x = cc in subst (λ (n : ℕ). isIn n ns ≡ true) z i
+  whole : (y : ℕ) → is_in y ns ≡ true → JudgedIn (Judged.Refused y 0)
+  whole y i x line h = let z : y ≡ x = cc in subst (λ (n : ℕ). is_in n ns ≡ true) z i
 
-  judge-in : (s : List ℕ) → JudgedIn (judgeLog s)
-  unfolding judgeLog
-  judge-in s x line h =
-      by_cond (λ (j : Judged). j ≡ Judged.Refused x line → isIn x ns ≡ true) (leb (length s) textLimit) _ (Judged.Refused textTooLong 0)
-      (λ short. by_cond (λ (j : Judged). j ≡ Judged.Refused x line → isIn x ns ≡ true) (utf8 s) _ (Judged.Refused notUtf8 0)
-      (λ u _. read-in ns w (lineNumbered line (logLines s)) x ((refused-iff s (record { short = leb-true (length s) textLimit short; encoded = u }) x line).0 h).here)
-      (λ _. whole notUtf8 bad x line))
-      (λ _. whole textTooLong long x line)
+  judge_in : (s : List ℕ) → JudgedIn (judge_log s)
+  unfolding judge_log
+  judge_in s x line h =
+      by_cond (λ (j : Judged). j ≡ Judged.Refused x line → is_in x ns ≡ true) (leb (length s) text_limit) _ (Judged.Refused text_too_long 0)
+      (λ short. by_cond (λ (j : Judged). j ≡ Judged.Refused x line → is_in x ns ≡ true) (utf8 s) _ (Judged.Refused not_utf8 0)
+      (λ u _. read_in ns w (line_numbered line (log_lines s)) x ((refused_iff s (record { short = leb-true (length s) text_limit short; encoded = u }) x line).0 h).here)
+      (λ _. whole not_utf8 bad x line))
+      (λ _. whole text_too_long long x line)
       h
 
-pub judge-refusals : {s k n t k' n' t' : List ℕ} {x line : ℕ} → Judge.JudgeWhole s k n t (Judged.Refused x line) k' n' t' → OneOf judgeRows x
-unfolding isIn allIn
-judge-refusals {s} {k} {n} {t} {x = x} {line} w = is_member x judgeRows (both-arms (JudgedIn judgeRows refl refl refl) (enough k n t) (judge-in judgeRows refl refl refl s) (whole judgeRows refl refl refl 1 refl) x line (sym w.answer))
+pub judge_refusals : {s k n t k' n' t' : List ℕ} {x line : ℕ} → Judge.JudgeWhole s k n t (Judged.Refused x line) k' n' t' → OneOf judge_rows x
+unfolding is_in all_in
+judge_refusals {s} {k} {n} {t} {x = x} {line} w = is_member x judge_rows (both_arms (JudgedIn judge_rows refl refl refl) (enough k n t) (judge_in judge_rows refl refl refl s) (whole judge_rows refl refl refl 1 refl) x line (sym w.answer))
 
 abbrev MergedIn : Merged → Type 0
 MergedIn (Merged.Written n) = Unit {0}
-MergedIn (Merged.Refused n log line) = isIn n mergeRows ≡ true
+MergedIn (Merged.Refused n log line) = is_in n merge_rows ≡ true
 
-judged-first : (log : ℕ) (j : Judged) (next : Merged) → ((x line : ℕ) → j ≡ Judged.Refused x line → isIn x mergeRows ≡ true) → MergedIn next → MergedIn (unlessRefused log j next)
-judged-first log (Judged.Accepted n) next h m = m
-judged-first log (Judged.Refused x line) next h m = h x line refl
+judged_first : (log : ℕ) (j : Judged) (next : Merged) → ((x line : ℕ) → j ≡ Judged.Refused x line → is_in x merge_rows ≡ true) → MergedIn next → MergedIn (unless_refused log j next)
+judged_first log (Judged.Accepted n) next h m = m
+judged_first log (Judged.Refused x line) next h m = h x line refl
 
-falls-next : (number log fall : ℕ) (next : Merged) → isIn number mergeRows ≡ true → MergedIn next → MergedIn (unlessFalls number log fall next)
-falls-next number log zero next i m = m
-falls-next number log (suc line) next i m = i
+falls_next : (number log fall : ℕ) (next : Merged) → is_in number merge_rows ≡ true → MergedIn next → MergedIn (unless_falls number log fall next)
+falls_next number log zero next i m = m
+falls_next number log (suc line) next i m = i
 
-merge_in : (first second : List ℕ) (room : ℕ) → MergedIn (mergeLogs first second room)
-unfolding mergeLogs isIn allIn
+merge_in : (first second : List ℕ) (room : ℕ) → MergedIn (merge_logs first second room)
+unfolding merge_logs is_in all_in
 merge_in first second room =
-    judged-first 1 (judgeLog first) _ (judge-in mergeRows refl refl refl first)
-    (judged-first 2 (judgeLog second) _ (judge-in mergeRows refl refl refl second)
-    (falls-next timesFallInFirst 1 (fallIn first) _ refl
-    (falls-next timesFallInSecond 2 (fallIn second) _ refl
-    (both-arms MergedIn (leb (length (mergedText first second)) textLimit) (both-arms MergedIn (leb (length (mergedText first second)) room) tt refl) refl))))
+    judged_first 1 (judge_log first) _ (judge_in merge_rows refl refl refl first)
+    (judged_first 2 (judge_log second) _ (judge_in merge_rows refl refl refl second)
+    (falls_next times_fall_in_first 1 (fall_in first) _ refl
+    (falls_next times_fall_in_second 2 (fall_in second) _ refl
+    (both_arms MergedIn (leb (length (merged_text first second)) text_limit) (both_arms MergedIn (leb (length (merged_text first second)) room) tt refl) refl))))
 
-pub merge-refusals : {first second k n t out k' n' t' out' : List ℕ} {x log line : ℕ} → Merge.MergeWhole first second k n t out (Merged.Refused x log line) k' n' t' out'
-    → OneOf mergeRows x
-unfolding isIn
-merge-refusals {first} {second} {k} {n} {t} {out} {x = x} w =
-    is_member x mergeRows (subst MergedIn (sym w.answer) (both-arms MergedIn (enough k n t) (merge_in first second (length out)) refl))
+pub merge_refusals : {first second k n t out k' n' t' out' : List ℕ} {x log line : ℕ} → Merge.MergeWhole first second k n t out (Merged.Refused x log line) k' n' t' out'
+    → OneOf merge_rows x
+unfolding is_in
+merge_refusals {first} {second} {k} {n} {t} {out} {x = x} w =
+    is_member x merge_rows (subst MergedIn (sym w.answer) (both_arms MergedIn (enough k n t) (merge_in first second (length out)) refl))
 
 -- ---- the table
 
-is-in : (n : ℕ) (ns : List ℕ) → OneOf ns n → isIn n ns ≡ true
-unfolding isIn
-is-in n [] m = elim m [ ]
-is-in n (x ∷ xs) (Memᴰ.head e) = or_left (eqb n x) (isIn n xs) (eq-eqb n x e)
-is-in n (x ∷ xs) (Memᴰ.tail m) = or_right (eqb n x) (isIn n xs) (is-in n xs m)
+is_one_of : (n : ℕ) (ns : List ℕ) → OneOf ns n → is_in n ns ≡ true
+unfolding is_in
+is_one_of n [] m = elim m [ ]
+is_one_of n (x ∷ xs) (Memᴰ.head e) = or_left (eqb n x) (is_in n xs) (eq-eqb n x e)
+is_one_of n (x ∷ xs) (Memᴰ.tail m) = or_right (eqb n x) (is_in n xs) (is_one_of n xs m)
 
-rows : (ns : List ℕ) → allIn ns refusalTable ≡ true → RowsOfTheTable ns
-rows ns w n m = is_member n refusalTable (in_all n ns refusalTable w (is-in n ns m))
+rows : (ns : List ℕ) → all_in ns refusal_table ≡ true → RowsOfTheTable ns
+rows ns w n m = is_member n refusal_table (in_all n ns refusal_table w (is_one_of n ns m))
 
-pub in-the-table : RowsOfTheTable decodeRows × RowsOfTheTable spellKeyRows × RowsOfTheTable cutBodyRows × RowsOfTheTable readLineRows × RowsOfTheTable judgeRows
-    × RowsOfTheTable listLineRows × RowsOfTheTable mergeRows
-unfolding isIn allIn
-in-the-table =
-    (rows decodeRows refl, rows spellKeyRows refl, rows cutBodyRows refl, rows readLineRows refl, rows judgeRows refl, rows listLineRows refl, rows mergeRows refl)
+pub in_the_table : RowsOfTheTable decode_rows × RowsOfTheTable spell_key_rows × RowsOfTheTable cut_body_rows × RowsOfTheTable read_line_rows × RowsOfTheTable judge_rows
+    × RowsOfTheTable list_line_rows × RowsOfTheTable merge_rows
+unfolding is_in all_in
+in_the_table =
+    (rows decode_rows refl, rows spell_key_rows refl, rows cut_body_rows refl, rows read_line_rows refl, rows judge_rows refl, rows list_line_rows refl, rows merge_rows refl)

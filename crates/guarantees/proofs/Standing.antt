@@ -6,64 +6,64 @@ use Prim.Native.Nat.{ℕ, ◌+◌, ◌-◌, ◌^◌, ◌<◌}
 use native.Mathlib.Omega.{arith}
 use lib.ListN.{length, drop, get_or, replicate, length-append}
 use lib.Seq.{drop_at, get_or_at}
-use Rattle.format.specs.Kinds.{recordKind}
-use Rattle.pack.specs.Pack.{Pack, emptyPack, node}
+use Rattle.format.specs.Kinds.{record_kind}
+use Rattle.pack.specs.Pack.{Pack, empty_pack, node}
 use Rattle.pack.specs.Padded.{padded}
-use Rattle.pack.proofs.Appended.{pack-is}
+use Rattle.pack.proofs.Appended.{pack_is}
 use Rattle.pack.proofs.Closed.{joined}
 use Rattle.pack.proofs.Laid.{element}
-use Rattle.entities.specs.Entries.{Entries, countEntries, storedKeys, appendEntities}
-use Rattle.entities.specs.Closed.{kindsEntries, textsEntries, numbersEntries}
-use Rattle.entities.proofs.Laid.{appendEntries-closed, keys-laid}
-use Rattle.events.specs.Event.{Event, appendEvent}
-use Rattle.guarantees.specs.Keys.{followedBy, tablesOf, keysIn}
-use Rattle.guarantees.proofs.Laying.{pastAll, Laid, beforeEntities, parts-laid}
-use Rattle.pack.specs.EventParts.{entitiesAt}
+use Rattle.entities.specs.Entries.{Entries, count_entries, stored_keys, append_entities}
+use Rattle.entities.specs.Closed.{kinds_entries, texts_entries, numbers_entries}
+use Rattle.entities.proofs.Laid.{append_entries_closed, keys_laid}
+use Rattle.events.specs.Event.{Event, append_event}
+use Rattle.guarantees.specs.Keys.{followed_by, tables_of, keys_in}
+use Rattle.guarantees.proofs.Laying.{past_all, Laid, before_entities, parts_laid}
+use Rattle.pack.specs.EventParts.{entities_at}
 
 -- ---- the entities node is the ninth
 
-entities-closed : (es : Entries) (p : Pack)
-    → appendEntities es p ≡ joined p (recordKind ∷ kindsEntries es) (countEntries es ∷ numbersEntries es (length p.texts)) (textsEntries es)
-entities-closed es p = appendEntries-closed es (node recordKind (countEntries es) p) ∙ pack-is _ _ (append_assoc p.kinds _ _) (append_assoc p.numbers _ _) refl
+entities_closed : (es : Entries) (p : Pack)
+    → append_entities es p ≡ joined p (record_kind ∷ kinds_entries es) (count_entries es ∷ numbers_entries es (length p.texts)) (texts_entries es)
+entities_closed es p = append_entries_closed es (node record_kind (count_entries es) p) ∙ pack_is _ _ (append_assoc p.kinds _ _) (append_assoc p.numbers _ _) refl
 
 -- behind eight values, whatever follows the pack
-keys-ninth : (es : Entries) (q rest : Pack) → Laid 8 emptyPack q → length (textsEntries es) < 2 ^ 32
-    → keysIn (followedBy (joined q (recordKind ∷ kindsEntries es) (countEntries es ∷ numbersEntries es (length q.texts)) (textsEntries es)) rest) ≡ storedKeys es
-unfolding keysIn pastAll
-keys-ninth es q rest o l =
-    let all = followedBy (joined q (recordKind ∷ kindsEntries es) (countEntries es ∷ numbersEntries es (length q.texts)) (textsEntries es)) rest in
+keys_ninth : (es : Entries) (q rest : Pack) → Laid 8 empty_pack q → length (texts_entries es) < 2 ^ 32
+    → keys_in (followed_by (joined q (record_kind ∷ kinds_entries es) (count_entries es ∷ numbers_entries es (length q.texts)) (texts_entries es)) rest) ≡ stored_keys es
+unfolding keys_in past_all
+keys_ninth es q rest o l =
+    let all = followed_by (joined q (record_kind ∷ kinds_entries es) (count_entries es ∷ numbers_entries es (length q.texts)) (texts_entries es)) rest in
     let ks : List ℕ = all.kinds in
     let ns : List ℕ = all.numbers in
     let ts : List ℕ = all.texts in
     let c = length o.kinds in
-    let k0 : ks ≡ o.kinds ++ (recordKind ∷ (kindsEntries es ++ rest.kinds)) = rw o.is (simp append_assoc) in
-    let n0 : ns ≡ o.numbers ++ (countEntries es ∷ (numbersEntries es (length q.texts) ++ rest.numbers)) = rw o.is (simp append_assoc) in
-    let t0 : ts ≡ q.texts ++ (textsEntries es ++ rest.texts) = simp append_assoc in
-    let at : entitiesAt ks ns ≡ c = o.past 0 ks ns _ _ k0 n0 ∙ omega arith in
-    let count : get_or ns c 0 ≡ countEntries es = rw n0 (get_or_at o.numbers _ _ 0 c o.even) in
-    let k1 = element ks c recordKind _ (ap (drop c) k0 ∙ drop_at o.kinds _ c refl) in
-    let n1 = element ns c (countEntries es) _ (ap (drop c) n0 ∙ drop_at o.numbers _ c o.even) in
+    let k0 : ks ≡ o.kinds ++ (record_kind ∷ (kinds_entries es ++ rest.kinds)) = rw o.is (simp append_assoc) in
+    let n0 : ns ≡ o.numbers ++ (count_entries es ∷ (numbers_entries es (length q.texts) ++ rest.numbers)) = rw o.is (simp append_assoc) in
+    let t0 : ts ≡ q.texts ++ (texts_entries es ++ rest.texts) = simp append_assoc in
+    let at : entities_at ks ns ≡ c = o.past 0 ks ns _ _ k0 n0 ∙ omega arith in
+    let count : get_or ns c 0 ≡ count_entries es = rw n0 (get_or_at o.numbers _ _ 0 c o.even) in
+    let k1 = element ks c record_kind _ (ap (drop c) k0 ∙ drop_at o.kinds _ c refl) in
+    let n1 = element ns c (count_entries es) _ (ap (drop c) n0 ∙ drop_at o.numbers _ c o.even) in
     rw (at, count)
-    (keys-laid es (c + 1) (length q.texts) ks ns ts _ _ _ k1.rest n1.rest (ap (drop (length q.texts)) t0 ∙ drop_at q.texts _ (length q.texts) refl) l)
+    (keys_laid es (c + 1) (length q.texts) ks ns ts _ _ _ k1.rest n1.rest (ap (drop (length q.texts)) t0 ∙ drop_at q.texts _ (length q.texts) refl) l)
 
-pub entities-stand : (es : Entries) (p rest : Pack) → Laid 8 emptyPack p → length (appendEntities es p).texts < 2 ^ 32 → keysIn (followedBy (appendEntities es p) rest) ≡ storedKeys es
-entities-stand es p rest o l =
-    let c = entities-closed es p in
-    let t = ap (λ (q : Pack). length q.texts) c ∙ length-append p.texts (textsEntries es) in
-    ap (λ (q : Pack). keysIn (followedBy q rest)) c ∙ keys-ninth es p rest o (omega arith)
+pub entities_stand : (es : Entries) (p rest : Pack) → Laid 8 empty_pack p → length (append_entities es p).texts < 2 ^ 32 → keys_in (followed_by (append_entities es p) rest) ≡ stored_keys es
+entities_stand es p rest o l =
+    let c = entities_closed es p in
+    let t = ap (λ (q : Pack). length q.texts) c ∙ length-append p.texts (texts_entries es) in
+    ap (λ (q : Pack). keys_in (followed_by q rest)) c ∙ keys_ninth es p rest o (omega arith)
 
 -- zeros behind what was written, and then r
-padded-behind : (n : ℕ) (l r : List ℕ) → padded n l ++ r ≡ l ++ (replicate (n - length l) 0 ++ r)
+padded_behind : (n : ℕ) (l r : List ℕ) → padded n l ++ r ≡ l ++ (replicate (n - length l) 0 ++ r)
 unfolding padded
-padded-behind n l r = append_assoc l (replicate (n - length l) 0) r
+padded_behind n l r = append_assoc l (replicate (n - length l) 0) r
 
-pub tables-padded : (n m : ℕ) (e : Event) (past : Pack)
+pub tables_padded : (n m : ℕ) (e : Event) (past : Pack)
     → (rest : Pack) × (record {
-      kinds = padded n (appendEvent e emptyPack).kinds ++ past.kinds;
-      numbers = padded n (appendEvent e emptyPack).numbers ++ past.numbers;
-      texts = padded m (appendEvent e emptyPack).texts ++ past.texts;
-    } ≡ tablesOf e rest)
-tables-padded n m e past = (_, pack-is _ _ (padded-behind n (appendEvent e emptyPack).kinds past.kinds) (padded-behind n (appendEvent e emptyPack).numbers past.numbers) (padded-behind m (appendEvent e emptyPack).texts past.texts))
+      kinds = padded n (append_event e empty_pack).kinds ++ past.kinds;
+      numbers = padded n (append_event e empty_pack).numbers ++ past.numbers;
+      texts = padded m (append_event e empty_pack).texts ++ past.texts;
+    } ≡ tables_of e rest)
+tables_padded n m e past = (_, pack_is _ _ (padded_behind n (append_event e empty_pack).kinds past.kinds) (padded_behind n (append_event e empty_pack).numbers past.numbers) (padded_behind m (append_event e empty_pack).texts past.texts))
 
-pub keys-stand : (e : Event) (rest : Pack) → length (appendEvent e emptyPack).texts < 2 ^ 32 → keysIn (tablesOf e rest) ≡ storedKeys e.entities
-keys-stand e rest l = entities-stand e.entities (beforeEntities e emptyPack) rest (parts-laid e emptyPack) l
+pub keys_stand : (e : Event) (rest : Pack) → length (append_event e empty_pack).texts < 2 ^ 32 → keys_in (tables_of e rest) ≡ stored_keys e.entities
+keys_stand e rest l = entities_stand e.entities (before_entities e empty_pack) rest (parts_laid e empty_pack) l

@@ -4,14 +4,14 @@ use Rattle.std.specs.Prelude.{◌≡◌, List, [], ◌∷◌, ◌++◌, ℕ}
 use Rattle.buffers.specs.Ascii.{ascii}
 use Rattle.format.specs.Limits.{levels}
 use Rattle.format.specs.Outcome.{ok}
-use Rattle.format.specs.Refusals.{eventOutOfOrder}
-use Rattle.cuts.specs.Split.{splitTopLevel, cutPlaces}
+use Rattle.format.specs.Refusals.{event_out_of_order}
+use Rattle.cuts.specs.Split.{split_top_level, cut_places}
 use Rattle.escapes.specs.Unescape.{unescape}
-use Rattle.keys.specs.Escape.{pinned, entityUid}
+use Rattle.keys.specs.Escape.{pinned, entity_uid}
 use Rattle.pack.specs.Value.{integer, decimal, string}
 use Rattle.values.specs.Parse.{parse}
-use Rattle.events.specs.Answer.{refused, readLine, packOf}
-use Rattle.guarantees.specs.Keys.{keysIn}
+use Rattle.events.specs.Answer.{refused, read_line, pack_of}
+use Rattle.guarantees.specs.Keys.{keys_in}
 
 -- 1 `\u{4_1}` decodes to A
 abbrev pub Fact1 : Type 0
@@ -31,30 +31,30 @@ Fact4 = unescape (ascii "\\x4") ≡ 4 ∷ []
 
 -- 5 an empty body gives one empty piece
 abbrev pub Fact5 : Type 0
-Fact5 = splitTopLevel [] ≡ [] ∷ []
+Fact5 = split_top_level [] ≡ [] ∷ []
 
 -- 6 `a,(b,c),"d,e"` is cut at places 1 and 7
 abbrev pub Fact6 : Type 0
-Fact6 = cutPlaces (ascii "a,(b,c),\"d,e\"") ≡ 1 ∷ 7 ∷ []
+Fact6 = cut_places (ascii "a,(b,c),\"d,e\"") ≡ 1 ∷ 7 ∷ []
 
 -- 7 `),a` has no cut
 abbrev pub Fact7 : Type 0
-Fact7 = cutPlaces (ascii "),a") ≡ []
+Fact7 = cut_places (ascii "),a") ≡ []
 
 -- 8 line `@0 )(` gives 18
 abbrev pub Fact8 : Type 0
-Fact8 = readLine (ascii "@0 )(") ≡ refused eventOutOfOrder
+Fact8 = read_line (ascii "@0 )(") ≡ refused event_out_of_order
 
 -- 9 `K'7` and `K\'7` of type `Cell` give key `Cell::"K\'7"`: spelled from what each decodes to, and as the one stored key in the pack of the
 -- line `@0 entities(Cell::"..":{})::""::k()`, with the id as it is written
-abbrev pub cellKey : List ℕ
-cellKey = ascii "Cell::\"K\\'7\""
+abbrev pub cell_key : List ℕ
+cell_key = ascii "Cell::\"K\\'7\""
 
-abbrev pub cellLine : List ℕ → List ℕ
-cellLine id = ascii "@0 entities(Cell::\"" ++ (id ++ ascii "\":{})::\"\"::k()")
+abbrev pub cell_line : List ℕ → List ℕ
+cell_line id = ascii "@0 entities(Cell::\"" ++ (id ++ ascii "\":{})::\"\"::k()")
 
 abbrev pub GivesKey : List ℕ → Type 0
-GivesKey id = (entityUid pinned (ascii "Cell") (unescape id) ≡ cellKey) × (keysIn (packOf (readLine (cellLine id))) ≡ cellKey ∷ [])
+GivesKey id = (entity_uid pinned (ascii "Cell") (unescape id) ≡ cell_key) × (keys_in (pack_of (read_line (cell_line id))) ≡ cell_key ∷ [])
 
 abbrev pub Fact9 : Type 0
 Fact9 = GivesKey (ascii "K'7") × GivesKey (ascii "K\\'7")
@@ -64,11 +64,11 @@ abbrev pub Fact10 : Type 0
 Fact10 = parse levels (ascii "\"x::\"") ≡ ok (string (ascii "x::"))
 
 -- 11 `9223372036854775808` is a string, `+5` the integer 5
-abbrev pub pastI64 : List ℕ
-pastI64 = ascii "9223372036854775808"
+abbrev pub past_i64 : List ℕ
+past_i64 = ascii "9223372036854775808"
 
 abbrev pub Fact11 : Type 0
-Fact11 = (parse levels pastI64 ≡ ok (string pastI64)) × (parse levels (ascii "+5") ≡ ok (integer 5))
+Fact11 = (parse levels past_i64 ≡ ok (string past_i64)) × (parse levels (ascii "+5") ≡ ok (integer 5))
 
 -- 12 `.5` is a decimal, `.` a string
 abbrev pub Fact12 : Type 0

@@ -2,7 +2,7 @@
 -- Assumes nothing.
 use mathlib.Core.List.{List, [], ◌∷◌, ◌++◌, Memᴰ}
 use Rattle.std.specs.Prelude.{ℕ}
-use Rattle.format.specs.Refusals.{tableTooShort, textTooLong, notUtf8, lineTooLong, outputTooShort, noAt, noSpaceAfterTime, badTime, scopeUnclosed, entitiesUnclosed, contextUnclosed, eventUnopened, eventUnclosed, eventOutOfOrder, noAction, actionUnterminated, noKind, argumentWithoutColon, duplicateArgument, valueTooDeep, fieldWithoutColon, duplicateField, entryWithoutRecord, entryWithoutColon, entryUnterminated, textAfterRecord, parentsNotBracketed, parentNoEntity, keyNoEntity, duplicateKey, entryNotARecord, timesFallInFirst, timesFallInSecond, mergedTooLong}
+use Rattle.format.specs.Refusals.{table_too_short, text_too_long, not_utf8, line_too_long, output_too_short, no_at, no_space_after_time, bad_time, scope_unclosed, entities_unclosed, context_unclosed, event_unopened, event_unclosed, event_out_of_order, no_action, action_unterminated, no_kind, argument_without_colon, duplicate_argument, value_too_deep, field_without_colon, duplicate_field, entry_without_record, entry_without_colon, entry_unterminated, text_after_record, parents_not_bracketed, parent_no_entity, key_no_entity, duplicate_key, entry_not_a_record, times_fall_in_first, times_fall_in_second, merged_too_long}
 
 -- one of these numbers: the library's membership
 abbrev pub OneOf : List ℕ → ℕ → Type 0
@@ -11,48 +11,48 @@ OneOf ns n = Memᴰ n ns
 -- ---- the rows
 
 -- 10 to 35: `parse_line` and what it calls
-abbrev pub lineRows : List ℕ
-lineRows =
-    noAt ∷ noSpaceAfterTime ∷ badTime
-    ∷ scopeUnclosed ∷ entitiesUnclosed ∷ contextUnclosed
-    ∷ eventUnopened ∷ eventUnclosed ∷ eventOutOfOrder
-    ∷ noAction ∷ actionUnterminated ∷ noKind
-    ∷ argumentWithoutColon ∷ duplicateArgument
-    ∷ valueTooDeep ∷ fieldWithoutColon ∷ duplicateField
-    ∷ entryWithoutRecord ∷ entryWithoutColon ∷ entryUnterminated ∷ entryNotARecord
-    ∷ textAfterRecord ∷ parentsNotBracketed ∷ parentNoEntity
-    ∷ keyNoEntity ∷ duplicateKey ∷ []
+abbrev pub line_rows : List ℕ
+line_rows =
+    no_at ∷ no_space_after_time ∷ bad_time
+    ∷ scope_unclosed ∷ entities_unclosed ∷ context_unclosed
+    ∷ event_unopened ∷ event_unclosed ∷ event_out_of_order
+    ∷ no_action ∷ action_unterminated ∷ no_kind
+    ∷ argument_without_colon ∷ duplicate_argument
+    ∷ value_too_deep ∷ field_without_colon ∷ duplicate_field
+    ∷ entry_without_record ∷ entry_without_colon ∷ entry_unterminated ∷ entry_not_a_record
+    ∷ text_after_record ∷ parents_not_bracketed ∷ parent_no_entity
+    ∷ key_no_entity ∷ duplicate_key ∷ []
 
 -- 45 to 47: merging two logs
-abbrev pub mergingRows : List ℕ
-mergingRows = timesFallInFirst ∷ timesFallInSecond ∷ mergedTooLong ∷ []
+abbrev pub merging_rows : List ℕ
+merging_rows = times_fall_in_first ∷ times_fall_in_second ∷ merged_too_long ∷ []
 
-abbrev pub refusalTable : List ℕ
-refusalTable = tableTooShort ∷ textTooLong ∷ notUtf8 ∷ lineTooLong ∷ outputTooShort ∷ (lineRows ++ mergingRows)
+abbrev pub refusal_table : List ℕ
+refusal_table = table_too_short ∷ text_too_long ∷ not_utf8 ∷ line_too_long ∷ output_too_short ∷ (line_rows ++ merging_rows)
 
 -- ---- the rows of each entry point
 
-abbrev pub decodeRows : List ℕ
-decodeRows = textTooLong ∷ notUtf8 ∷ outputTooShort ∷ []
+abbrev pub decode_rows : List ℕ
+decode_rows = text_too_long ∷ not_utf8 ∷ output_too_short ∷ []
 
-abbrev pub spellKeyRows : List ℕ
-spellKeyRows = textTooLong ∷ notUtf8 ∷ lineTooLong ∷ outputTooShort ∷ []
+abbrev pub spell_key_rows : List ℕ
+spell_key_rows = text_too_long ∷ not_utf8 ∷ line_too_long ∷ output_too_short ∷ []
 
-abbrev pub cutBodyRows : List ℕ
-cutBodyRows = textTooLong ∷ notUtf8 ∷ lineTooLong ∷ outputTooShort ∷ []
+abbrev pub cut_body_rows : List ℕ
+cut_body_rows = text_too_long ∷ not_utf8 ∷ line_too_long ∷ output_too_short ∷ []
 
-abbrev pub readLineRows : List ℕ
-readLineRows = tableTooShort ∷ textTooLong ∷ notUtf8 ∷ lineTooLong ∷ lineRows
+abbrev pub read_line_rows : List ℕ
+read_line_rows = table_too_short ∷ text_too_long ∷ not_utf8 ∷ line_too_long ∷ line_rows
 
-abbrev pub judgeRows : List ℕ
-judgeRows = readLineRows
+abbrev pub judge_rows : List ℕ
+judge_rows = read_line_rows
 
-abbrev pub listLineRows : List ℕ
-listLineRows = tableTooShort ∷ textTooLong ∷ notUtf8 ∷ lineTooLong ∷ outputTooShort ∷ lineRows
+abbrev pub list_line_rows : List ℕ
+list_line_rows = table_too_short ∷ text_too_long ∷ not_utf8 ∷ line_too_long ∷ output_too_short ∷ line_rows
 
-abbrev pub mergeRows : List ℕ
-mergeRows = refusalTable
+abbrev pub merge_rows : List ℕ
+merge_rows = refusal_table
 
 -- these are rows of the table
 abbrev pub RowsOfTheTable : List ℕ → Type 0
-RowsOfTheTable ns = (n : ℕ) → OneOf ns n → OneOf refusalTable n
+RowsOfTheTable ns = (n : ℕ) → OneOf ns n → OneOf refusal_table n

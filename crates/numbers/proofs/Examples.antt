@@ -6,25 +6,25 @@ use Rattle.numbers.specs.declared.Int.TheVariants.{Is, No}
 use Rattle.numbers.specs.Grammar.{matches, many}
 use Rattle.numbers.specs.Digits.{value}
 use Rattle.numbers.specs.Twos.{twos, untwos}
-use Rattle.numbers.specs.Integer.{i64Of}
-use Rattle.numbers.specs.Decimal.{float, hasDot, isDecimal}
+use Rattle.numbers.specs.Integer.{i64_of}
+use Rattle.numbers.specs.Decimal.{float, has_dot, is_decimal}
 
-decimals : map isDecimal (ascii "1." ∷ ascii "1.e1" ∷ ascii "+.5" ∷ ascii "-1.5E-3" ∷ ascii ".5" ∷ []) ≡ replicate 5 true
-unfolding isDecimal hasDot many
+decimals : map is_decimal (ascii "1." ∷ ascii "1.e1" ∷ ascii "+.5" ∷ ascii "-1.5E-3" ∷ ascii ".5" ∷ []) ≡ replicate 5 true
+unfolding is_decimal has_dot many
 decimals = refl
 
-no-decimals : map isDecimal
+no_decimals : map is_decimal
     (ascii "." ∷ ascii ".e1" ∷ ascii "1e1" ∷ ascii "inf" ∷ ascii "1.5e" ∷ ascii "1.5e+" ∷ ascii "" ∷ ascii "+." ∷ ascii "1.2.3" ∷ ascii "1_0.0" ∷ [])
     ≡ replicate 10 false
-unfolding isDecimal hasDot many
-no-decimals = refl
+unfolding is_decimal has_dot many
+no_decimals = refl
 
 -- taken by the grammar, with a dot or not
 floats : map (matches float) (ascii "inf" ∷ ascii "-Infinity" ∷ ascii "NaN" ∷ ascii "7" ∷ ascii "2.5E10" ∷ ascii "1e1" ∷ []) ≡ replicate 6 true
 unfolding many
 floats = refl
 
-integers : map i64Of
+integers : map i64_of
     (ascii "+5"
     ∷ ascii "-0"
     ∷ ascii "-1"
@@ -33,10 +33,10 @@ integers : map i64Of
     ∷ ascii "-9223372036854775808"
     ∷ [])
     ≡ Is 5 ∷ Is 0 ∷ Is 18446744073709551615 ∷ Is 5 ∷ Is 9223372036854775807 ∷ Is 9223372036854775808 ∷ []
-unfolding i64Of many value
+unfolding i64_of many value
 integers = refl
 
-no-integers : map i64Of
+no_integers : map i64_of
     (ascii ""
     ∷ ascii "+"
     ∷ ascii "-"
@@ -47,8 +47,8 @@ no-integers : map i64Of
     ∷ ascii "-9223372036854775809"
     ∷ ascii "99999999999999999999999999"
     ∷ []) ≡ replicate 9 No
-unfolding i64Of many value
-no-integers = refl
+unfolding i64_of many value
+no_integers = refl
 
 -- -1 and the least i64
 minus_one : untwos (twos (negsuc 0)) ≡ negsuc 0

@@ -3,45 +3,45 @@
 use Rattle.std.proofs.Common.{◌≡◌, ℕ, ◌+◌, ◌<◌, ◌≤◌, true, false, leb, List, ◌∷◌, length, get_or, drop, sym, add-one, drop_of_length-le, drop-cons, eq-eqb, ne_eqb, leb-true}
 use Prim.Native.Char.{code}
 use Rattle.buffers.proofs.Choice.{and_left, and_right}
-use Rattle.numbers.specs.Digits.{isDigit, isSign, leadingDigits, signs}
+use Rattle.numbers.specs.Digits.{is_digit, is_sign, leading_digits, signs}
 
 -- the byte at a place and what follows it
-pub byte-and-rest : (s : List ℕ) (i : ℕ) → i < length s → drop i s ≡ get_or s i 0 ∷ drop (i + 1) s
-byte-and-rest s i h = rw add-one (drop-cons s i 0 h)
+pub byte_and_rest : (s : List ℕ) (i : ℕ) → i < length s → drop i s ≡ get_or s i 0 ∷ drop (i + 1) s
+byte_and_rest s i h = rw add-one (drop-cons s i 0 h)
 
 module _ (s : List ℕ) (i : ℕ) where
-  pub run_on : i < length s → isDigit (get_or s i 0) ≡ true → leadingDigits (drop i s) ≡ leadingDigits (drop (i + 1) s) + 1
-  unfolding leadingDigits
-  run_on h d = rw (byte-and-rest s i h, d) (sym (add-one (leadingDigits (drop (i + 1) s))))
+  pub run_on : i < length s → is_digit (get_or s i 0) ≡ true → leading_digits (drop i s) ≡ leading_digits (drop (i + 1) s) + 1
+  unfolding leading_digits
+  run_on h d = rw (byte_and_rest s i h, d) (sym (add-one (leading_digits (drop (i + 1) s))))
 
-  pub run-off : i < length s → isDigit (get_or s i 0) ≡ false → leadingDigits (drop i s) ≡ 0
-  unfolding leadingDigits
-  run-off h d = rw (byte-and-rest s i h, d)
+  pub run_off : i < length s → is_digit (get_or s i 0) ≡ false → leading_digits (drop i s) ≡ 0
+  unfolding leading_digits
+  run_off h d = rw (byte_and_rest s i h, d)
 
-  pub run_end : length s ≤ i → leadingDigits (drop i s) ≡ 0
-  unfolding leadingDigits
+  pub run_end : length s ≤ i → leading_digits (drop i s) ≡ 0
+  unfolding leading_digits
   run_end h = rw (drop_of_length-le s h)
 
-  pub sign-on : i < length s → isSign (get_or s i 0) ≡ true → signs (drop i s) ≡ 1
-  sign-on h d = rw (byte-and-rest s i h, d)
+  pub sign_on : i < length s → is_sign (get_or s i 0) ≡ true → signs (drop i s) ≡ 1
+  sign_on h d = rw (byte_and_rest s i h, d)
 
-  pub sign-off : i < length s → isSign (get_or s i 0) ≡ false → signs (drop i s) ≡ 0
-  sign-off h d = rw (byte-and-rest s i h, d)
+  pub sign_off : i < length s → is_sign (get_or s i 0) ≡ false → signs (drop i s) ≡ 0
+  sign_off h d = rw (byte_and_rest s i h, d)
 
-  pub sign-end : length s ≤ i → signs (drop i s) ≡ 0
-  sign-end h = rw (drop_of_length-le s h)
+  pub sign_end : length s ≤ i → signs (drop i s) ≡ 0
+  sign_end h = rw (drop_of_length-le s h)
 
-pub is-plus : (b : ℕ) → b ≡ code "+" → isSign b ≡ true
-is-plus b e = rw (eq-eqb b (code "+") e)
+pub is_plus : (b : ℕ) → b ≡ code "+" → is_sign b ≡ true
+is_plus b e = rw (eq-eqb b (code "+") e)
 
-pub is-minus : (b : ℕ) → b ≡ code "-" → isSign b ≡ true
-is-minus b e = rw e
+pub is_minus : (b : ℕ) → b ≡ code "-" → is_sign b ≡ true
+is_minus b e = rw e
 
-pub no_sign : (b : ℕ) → (b ≡ code "+" → ⊥) → (b ≡ code "-" → ⊥) → isSign b ≡ false
+pub no_sign : (b : ℕ) → (b ≡ code "+" → ⊥) → (b ≡ code "-" → ⊥) → is_sign b ≡ false
 no_sign b p m = rw (ne_eqb b (code "+") p, ne_eqb b (code "-") m)
 
-pub digit-least : (b : ℕ) → isDigit b ≡ true → code "0" ≤ b
-digit-least b d = leb-true (code "0") b (and_left (leb (code "0") b) (leb b (code "9")) d)
+pub digit_least : (b : ℕ) → is_digit b ≡ true → code "0" ≤ b
+digit_least b d = leb-true (code "0") b (and_left (leb (code "0") b) (leb b (code "9")) d)
 
-pub digit-most : (b : ℕ) → isDigit b ≡ true → b ≤ code "9"
-digit-most b d = leb-true b (code "9") (and_right (leb (code "0") b) (leb b (code "9")) d)
+pub digit_most : (b : ℕ) → is_digit b ≡ true → b ≤ code "9"
+digit_most b d = leb-true b (code "9") (and_right (leb (code "0") b) (leb b (code "9")) d)

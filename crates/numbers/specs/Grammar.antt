@@ -7,18 +7,18 @@ abbrev pub Rule : Type 0
 Rule = (List ℕ → Bool) → List ℕ → Bool
 
 -- nothing follows
-abbrev pub atEnd : List ℕ → Bool
-atEnd [] = true
-atEnd (b ∷ r) = false
+abbrev pub at_end : List ℕ → Bool
+at_end [] = true
+at_end (b ∷ r) = false
 
 -- the whole text is one of the rule's
 abbrev pub matches : Rule → List ℕ → Bool
-matches p s = p atEnd s
+matches p s = p at_end s
 
 -- one byte that passes the test
-abbrev pub oneByte : (ℕ → Bool) → Rule
-oneByte t k [] = false
-oneByte t k (b ∷ r) = t b && k r
+abbrev pub one_byte : (ℕ → Bool) → Rule
+one_byte t k [] = false
+one_byte t k (b ∷ r) = t b && k r
 
 infixr 25 ◌then◌
 infixr 20 ◌or◌
@@ -39,5 +39,5 @@ unfoldable pub many : (ℕ → Bool) → Rule
 many t k [] = k []
 many t k (b ∷ r) = k (b ∷ r) || (t b && many t k r)
 
-abbrev pub oneOrMore : (ℕ → Bool) → Rule
-oneOrMore t = oneByte t then many t
+abbrev pub one_or_more : (ℕ → Bool) → Rule
+one_or_more t = one_byte t then many t

@@ -4,24 +4,24 @@ use Rattle.std.specs.Prelude.{ℕ, cond, ◌&&◌, List, drop, ℤ, pos, neg_ℤ
 use Prim.Native.Char.{code}
 use Rattle.numbers.specs.declared.Int.{Int}
 use Rattle.numbers.specs.declared.Int.TheVariants.{Is, No}
-use Rattle.numbers.specs.Grammar.{Rule, matches, oneByte, ◌then◌, opt, oneOrMore}
-use Rattle.numbers.specs.Digits.{isDigit, isSign, signs, value}
-use Rattle.numbers.specs.Twos.{inRange, twos}
+use Rattle.numbers.specs.Grammar.{Rule, matches, one_byte, ◌then◌, opt, one_or_more}
+use Rattle.numbers.specs.Digits.{is_digit, is_sign, signs, value}
+use Rattle.numbers.specs.Twos.{in_range, twos}
 
 -- Integer ::= Sign? Digit+
-abbrev pub integerRule : Rule
-integerRule = opt (oneByte isSign) then oneOrMore isDigit
+abbrev pub integer_rule : Rule
+integer_rule = opt (one_byte is_sign) then one_or_more is_digit
 
 -- what a text of that form says
 abbrev pub magnitude : List ℕ → ℕ
 magnitude s = value 0 (drop (signs s) s)
 
-abbrev pub integerOf : List ℕ → ℤ
-integerOf s = cond (eqb (get_or s 0 0) (code "-")) (neg_ℤ (pos (magnitude s))) (pos (magnitude s))
+abbrev pub integer_of : List ℕ → ℤ
+integer_of s = cond (eqb (get_or s 0 0) (code "-")) (neg_ℤ (pos (magnitude s))) (pos (magnitude s))
 
-unfoldable pub i64Of : List ℕ → Int
-i64Of s = cond (matches integerRule s && inRange (integerOf s)) (Is (twos (integerOf s))) No
+unfoldable pub i64_of : List ℕ → Int
+i64_of s = cond (matches integer_rule s && in_range (integer_of s)) (Is (twos (integer_of s))) No
 
 -- a number of at least one digit and nothing else, up to a limit
-unfoldable pub upTo : ℕ → List ℕ → Int
-upTo limit s = cond (matches (oneOrMore isDigit) s && leb (value 0 s) limit) (Is (value 0 s)) No
+unfoldable pub up_to : ℕ → List ℕ → Int
+up_to limit s = cond (matches (one_or_more is_digit) s && leb (value 0 s) limit) (Is (value 0 s)) No

@@ -4,9 +4,9 @@
 
 ghost use Rattle.std.specs.Prelude.{◌≡◌, ◌+◌, ◌^◌, ◌≤◌, drop};
 ghost use Rattle.numbers.specs.Grammar.{matches, opt};
-ghost use Rattle.numbers.specs.Digits.{isDigit, leadingDigits, signs};
-ghost use Rattle.numbers.specs.Integer.{i64Of, upTo};
-ghost use Rattle.numbers.specs.Decimal.{isExponentLetter, exponent, isDecimal};
+ghost use Rattle.numbers.specs.Digits.{is_digit, leading_digits, signs};
+ghost use Rattle.numbers.specs.Integer.{i64_of, up_to};
+ghost use Rattle.numbers.specs.Decimal.{is_exponent_letter, exponent, is_decimal};
 
 #[derive(Clone, Copy)]
 pub enum Int {
@@ -25,14 +25,14 @@ const MIN_MAGNITUDE: u64 = 9_223_372_036_854_775_808;
 const FULL: u64 = 922_337_203_685_477_580;
 
 fn is_digit(b: u8) -> bool
-    ensures { result ≡ isDigit b }
+    ensures { result ≡ is_digit b }
 {
     b'0' <= b && b <= b'9'
 }
 
 // Where the digits from `from` on end.
 fn digits_end(s: &[u8], from: usize) -> usize
-    ensures { result ≡ from + leadingDigits (drop from s.now) }
+    ensures { result ≡ from + leading_digits (drop from s.now) }
 {
     let mut i = from;
     while i < s.len() {
@@ -64,7 +64,7 @@ fn sign_end(s: &[u8], from: usize) -> usize
 // What the bytes from `from` on say where they are digits, at least one, and it is at most `limit`.
 fn magnitude(s: &[u8], from: usize, limit: u64) -> Int
     requires { limit ≤ 2 ^ 63 }
-    ensures { result ≡ upTo limit (drop from s.now) }
+    ensures { result ≡ up_to limit (drop from s.now) }
 {
     if s.len() <= from {
         return Int::No;
@@ -90,7 +90,7 @@ fn magnitude(s: &[u8], from: usize, limit: u64) -> Int
 
 // The i64 that the whole text is. A number past the range is none, and so is a sign alone.
 pub fn parse_i64(s: &[u8]) -> Int
-    ensures { result ≡ i64Of s.now }
+    ensures { result ≡ i64_of s.now }
 {
     if s.len() == 0 {
         return Int::No;
@@ -106,7 +106,7 @@ pub fn parse_i64(s: &[u8]) -> Int
 }
 
 fn is_exponent_letter(b: u8) -> bool
-    ensures { result ≡ isExponentLetter b }
+    ensures { result ≡ is_exponent_letter b }
 {
     b == b'e' || b == b'E'
 }
@@ -132,7 +132,7 @@ fn ends_in_exponent(s: &[u8], from: usize) -> bool
 // Has the text a dot and the syntax of an f64? Without a dot behind its sign and digits it is none, whatever follows:
 // a bare word is settled at its first byte, and `inf` and `nan` have no dot.
 pub fn is_decimal(s: &[u8]) -> bool
-    ensures { result ≡ isDecimal s.now }
+    ensures { result ≡ is_decimal s.now }
 {
     let start = sign_end(s, 0);
     let dot = digits_end(s, start);

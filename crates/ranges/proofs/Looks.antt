@@ -6,44 +6,44 @@ use mathlib.Core.Bool.{Bool, true, false}
 use mathlib.Core.List.{List}
 use Prim.Native.Nat.{ℕ, ◌<◌, zero-le, suc-le-suc}
 use lib.ListN.{length}
-use Rattle.buffers.proofs.Choice.{and-false}
+use Rattle.buffers.proofs.Choice.{and_false}
 use Rattle.ranges.specs.Ranges.{member}
-use Rattle.ranges.specs.EscapedAnywhere.{escapedAnywhere}
-use Rattle.ranges.specs.FirstOnly.{firstOnly}
+use Rattle.ranges.specs.EscapedAnywhere.{escaped_anywhere}
+use Rattle.ranges.specs.FirstOnly.{first_only}
 use Rattle.ranges.specs.Hidden.{pinned, hidden}
-use Rattle.ranges.specs.Look.{lookOf, TablesLent}
+use Rattle.ranges.specs.Look.{look_of, TablesLent}
 use Rattle.ranges.specs.declared.Look.TheVariants.{Number, Itself}
 
-pub hidden-never : (first : Bool) (c : ℕ) → member escapedAnywhere c ≡ false → member firstOnly c ≡ false → hidden pinned first c ≡ false
+pub hidden_never : (first : Bool) (c : ℕ) → member escaped_anywhere c ≡ false → member first_only c ≡ false → hidden pinned first c ≡ false
 unfolding hidden
-hidden-never first c e f = rw (e, f) (and-false first)
+hidden_never first c e f = rw (e, f) (and_false first)
 
-pub hidden-always : (first : Bool) (c : ℕ) → member escapedAnywhere c ≡ true → hidden pinned first c ≡ true
+pub hidden_always : (first : Bool) (c : ℕ) → member escaped_anywhere c ≡ true → hidden pinned first c ≡ true
 unfolding hidden
-hidden-always first c e = rw e
+hidden_always first c e = rw e
 
-hidden-as-first : (c : ℕ) → member escapedAnywhere c ≡ false → hidden pinned true c ≡ member firstOnly c
+hidden_as_first : (c : ℕ) → member escaped_anywhere c ≡ false → hidden pinned true c ≡ member first_only c
 unfolding hidden
-hidden-as-first c e = rw e
+hidden_as_first c e = rw e
 
-pub anywhere-number : (first : Bool) (c : ℕ) → member escapedAnywhere c ≡ true → lookOf pinned first c ≡ Number
-anywhere-number first c e = rw (hidden-always first c e)
+pub anywhere_number : (first : Bool) (c : ℕ) → member escaped_anywhere c ≡ true → look_of pinned first c ≡ Number
+anywhere_number first c e = rw (hidden_always first c e)
 
-pub neither-itself : (first : Bool) (c : ℕ) → member escapedAnywhere c ≡ false → member firstOnly c ≡ false → lookOf pinned first c ≡ Itself
-neither-itself first c e f = rw (hidden-never first c e f)
+pub neither_itself : (first : Bool) (c : ℕ) → member escaped_anywhere c ≡ false → member first_only c ≡ false → look_of pinned first c ≡ Itself
+neither_itself first c e f = rw (hidden_never first c e f)
 
-pub as-first-number : (c : ℕ) → member escapedAnywhere c ≡ false → member firstOnly c ≡ true → lookOf pinned true c ≡ Number
-as-first-number c e f = rw (hidden-as-first c e, f)
+pub as_first_number : (c : ℕ) → member escaped_anywhere c ≡ false → member first_only c ≡ true → look_of pinned true c ≡ Number
+as_first_number c e f = rw (hidden_as_first c e, f)
 
-pub later-itself : (c : ℕ) → member escapedAnywhere c ≡ false → lookOf pinned false c ≡ Itself
+pub later_itself : (c : ℕ) → member escaped_anywhere c ≡ false → look_of pinned false c ≡ Itself
 unfolding hidden
-later-itself c e = rw e
+later_itself c e = rw e
 
 -- where the first table has entries both are lent
-pub lent_both : (anywhere first : List ℕ) → TablesLent anywhere first → (length anywhere ≡ 0 → ⊥) → (anywhere ≡ escapedAnywhere) × (first ≡ firstOnly)
+pub lent_both : (anywhere first : List ℕ) → TablesLent anywhere first → (length anywhere ≡ 0 → ⊥) → (anywhere ≡ escaped_anywhere) × (first ≡ first_only)
 lent_both anywhere first (inl e) h = absurd (h e)
 lent_both anywhere first (inr t) h = t
 
-pub table_filled : 0 < length escapedAnywhere
-unfolding escapedAnywhere
+pub table_filled : 0 < length escaped_anywhere
+unfolding escaped_anywhere
 table_filled = suc-le-suc zero-le

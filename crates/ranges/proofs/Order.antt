@@ -34,11 +34,11 @@ above p (x ∷ xs) t (suc q) h =
     (above x xs (both_right (ltb p x) (rises x xs) t) q (le_of_suc-le-suc h))
 
 -- the test is the order
-pub ascends-ascending : (xs : List ℕ) → T (ascends xs) → Ascending xs
-ascends-ascending [] t i j l h = absurd (not-suc-le-zero h)
-ascends-ascending (x ∷ xs) t i zero l h = absurd (not-suc-le-zero l)
-ascends-ascending (x ∷ xs) t zero (suc j) l h = above x xs t j (le_of_suc-le-suc h)
-ascends-ascending (x ∷ xs) t (suc i) (suc j) l h = ascends-ascending xs (later x xs t) i j (le_of_suc-le-suc l) (le_of_suc-le-suc h)
+pub ascends_ascending : (xs : List ℕ) → T (ascends xs) → Ascending xs
+ascends_ascending [] t i j l h = absurd (not-suc-le-zero h)
+ascends_ascending (x ∷ xs) t i zero l h = absurd (not-suc-le-zero l)
+ascends_ascending (x ∷ xs) t zero (suc j) l h = above x xs t j (le_of_suc-le-suc h)
+ascends_ascending (x ∷ xs) t (suc i) (suc j) l h = ascends_ascending xs (later x xs t) i j (le_of_suc-le-suc l) (le_of_suc-le-suc h)
   where
     later : (x : ℕ) (xs : List ℕ) → T (rises x xs) → T (ascends xs)
     later x [] t = tt

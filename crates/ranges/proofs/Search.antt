@@ -14,31 +14,31 @@ use Rattle.ranges.specs.Ranges.{member, Ascending}
 
 -- lo and hi bracket the place: what stands before lo is at most x, what stands from hi on is above it
 pub record Bracket (a : List ℕ) (x lo hi : ℕ) : Type 0 where
-  pub lo-le : lo ≤ hi
-  pub hi-le : hi ≤ length a
+  pub lo_le : lo ≤ hi
+  pub hi_le : hi ≤ length a
   pub below : (k : ℕ) → k < lo → get_or a k 0 ≤ x
   pub beyond : (k : ℕ) → hi ≤ k → k < length a → x < get_or a k 0
 
 module _ {a : List ℕ} {x lo hi : ℕ} (s : Ascending a) (b : Bracket a x lo hi) (m : ℕ) (lm : lo ≤ m) (mh : m < hi) where
   pub up : get_or a m 0 ≤ x → Bracket a x (m + 1) hi
   up c = record {
-    lo-le = omega arith;
-    hi-le = b.hi-le;
-    below = λ k l. at k (eq-or-lt_of_le (le-upto k l));
+    lo_le = omega arith;
+    hi_le = b.hi_le;
+    below = λ k l. at k (eq-or-lt_of_le (le_upto k l));
     beyond = b.beyond;
   }
     where
-      le-upto : (k : ℕ) → k < m + 1 → k ≤ m
-      le-upto k l = omega arith
+      le_upto : (k : ℕ) → k < m + 1 → k ≤ m
+      le_upto k l = omega arith
 
       at : (k : ℕ) → (k ≡ m) ⊎ (k < m) → get_or a k 0 ≤ x
       at k (inl e) = rw e c
-      at k (inr l) = le_trans (le_of_lt (s k m l (lt_of_lt_of_le mh b.hi-le))) c
+      at k (inr l) = le_trans (le_of_lt (s k m l (lt_of_lt_of_le mh b.hi_le))) c
 
   pub down : x < get_or a m 0 → Bracket a x lo m
   down c = record {
-    lo-le = lm;
-    hi-le = omega (arith, b.hi-le);
+    lo_le = lm;
+    hi_le = omega (arith, b.hi_le);
     below = b.below;
     beyond = λ k l h. at k (eq-or-lt_of_le l) h;
   }
@@ -72,10 +72,10 @@ placed (lo ∷ hi ∷ rest) c (suc (suc r)) h b a =
     rw (le-leb lo c (b 0 (suc-le-suc zero-le)), le-ltb c hi (b 1 (suc-le-suc (suc-le-suc zero-le))))
     (placed rest c r (le_of_suc-le-suc (le_of_suc-le-suc h)) (λ k l. b (suc (suc k)) (suc-le-suc (suc-le-suc l))) (λ k l m. a (suc (suc k)) (suc-le-suc (suc-le-suc l)) (suc-le-suc (suc-le-suc m))))
 
-pub odd-mod : (r : ℕ) → eqb (r % 2) 1 ≡ odd r
-odd-mod zero = refl
-odd-mod (suc zero) = refl
-odd-mod (suc (suc r)) = ap (λ (n : ℕ). eqb n 1) (two r) ∙ odd-mod r
+pub odd_mod : (r : ℕ) → eqb (r % 2) 1 ≡ odd r
+odd_mod zero = refl
+odd_mod (suc zero) = refl
+odd_mod (suc (suc r)) = ap (λ (n : ℕ). eqb n 1) (two r) ∙ odd_mod r
   where
     two : (r : ℕ) → suc (suc r) % 2 ≡ r % 2
     two r = omega arith

@@ -2,8 +2,8 @@
 -- Assumes nothing. Written by tools/escape_tables with rustc 1.95.0 (59807616e 2026-04-14).
 use Rattle.std.specs.Prelude.{List, [], ◌∷◌, ℕ}
 
-unfoldable pub escapedAnywhere : List ℕ
-escapedAnywhere =
+unfoldable pub escaped_anywhere : List ℕ
+escaped_anywhere =
     1 ∷ 9 ∷ 11 ∷ 13 ∷ 14 ∷ 32 ∷ 127 ∷ 161 ∷ 173 ∷ 174 ∷ 888 ∷ 890 ∷ 896 ∷ 900 ∷ 907 ∷ 908 ∷
     909 ∷ 910 ∷ 930 ∷ 931 ∷ 1328 ∷ 1329 ∷ 1367 ∷ 1369 ∷ 1419 ∷ 1421 ∷ 1424 ∷ 1425 ∷ 1480 ∷ 1488 ∷ 1515 ∷ 1519 ∷
     1525 ∷ 1542 ∷ 1564 ∷ 1565 ∷ 1757 ∷ 1758 ∷ 1806 ∷ 1808 ∷ 1867 ∷ 1869 ∷ 1970 ∷ 1984 ∷ 2043 ∷ 2045 ∷ 2094 ∷ 2096 ∷

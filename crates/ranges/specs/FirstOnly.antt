@@ -2,8 +2,8 @@
 -- Assumes nothing. Written by tools/escape_tables with rustc 1.95.0 (59807616e 2026-04-14).
 use Rattle.std.specs.Prelude.{List, [], ◌∷◌, ℕ}
 
-unfoldable pub firstOnly : List ℕ
-firstOnly =
+unfoldable pub first_only : List ℕ
+first_only =
     768 ∷ 880 ∷ 1155 ∷ 1162 ∷ 1425 ∷ 1470 ∷ 1471 ∷ 1472 ∷ 1473 ∷ 1475 ∷ 1476 ∷ 1478 ∷ 1479 ∷ 1480 ∷ 1552 ∷ 1563 ∷
     1611 ∷ 1632 ∷ 1648 ∷ 1649 ∷ 1750 ∷ 1757 ∷ 1759 ∷ 1765 ∷ 1767 ∷ 1769 ∷ 1770 ∷ 1774 ∷ 1809 ∷ 1810 ∷ 1840 ∷ 1867 ∷
     1958 ∷ 1969 ∷ 2027 ∷ 2036 ∷ 2045 ∷ 2046 ∷ 2070 ∷ 2074 ∷ 2075 ∷ 2084 ∷ 2085 ∷ 2088 ∷ 2089 ∷ 2094 ∷ 2137 ∷ 2140 ∷

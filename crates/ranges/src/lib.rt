@@ -6,9 +6,9 @@ pub mod tables;
 
 ghost use Rattle.std.specs.Prelude.{◌≡◌, ℕ, ◌≤◌, ◌<◌, get_or, length};
 ghost use Rattle.ranges.specs.Ranges.{member, Ascending};
-ghost use Rattle.ranges.specs.EscapedAnywhere.{escapedAnywhere};
-ghost use Rattle.ranges.specs.FirstOnly.{firstOnly};
-ghost use Rattle.ranges.specs.Common.{common as commonList};
+ghost use Rattle.ranges.specs.EscapedAnywhere.{escaped_anywhere};
+ghost use Rattle.ranges.specs.FirstOnly.{first_only};
+ghost use Rattle.ranges.specs.Common.{common as common_list};
 ghost use Rattle.ranges.specs.Look.{TablesLent, Settled};
 
 // How a character beyond printable ASCII is written.
@@ -49,7 +49,7 @@ fn boundaries_passed(table: &[u32], c: u32) -> usize
 }
 
 // Is c in one of the table's ranges? Behind a start and before its end an odd number of boundaries is passed.
-fn in_ranges(table: &[u32], c: u32) -> bool
+pub fn in_ranges(table: &[u32], c: u32) -> bool
     requires { Ascending table.now }
     ensures { result ≡ member table.now c }
 {
@@ -59,21 +59,21 @@ fn in_ranges(table: &[u32], c: u32) -> bool
 // The code points that are written as numbers wherever they stand, as a table for `look_of`.
 // Each call lays the whole table on the stack: who asks for many code points does so once.
 pub fn escaped_anywhere() -> [u32; 1490]
-    ensures { result ≡ escapedAnywhere }
+    ensures { result ≡ escaped_anywhere }
 {
     tables::ESCAPED_ANYWHERE
 }
 
 // Those that are written as numbers only as first character.
 pub fn first_only() -> [u32; 762]
-    ensures { result ≡ firstOnly }
+    ensures { result ≡ first_only }
 {
     tables::FIRST_ONLY
 }
 
 // How a character beyond printable ASCII is written by the tables; Unknown only where none are lent.
 pub fn look_of(common: &[u32], anywhere: &[u32], firsts: &[u32], c: u32, first: bool) -> Look
-    requires { (common.now ≡ commonList) × TablesLent anywhere.now firsts.now × (127 ≤ c) }
+    requires { (common.now ≡ common_list) × TablesLent anywhere.now firsts.now × (127 ≤ c) }
     ensures { Settled anywhere.now first c result }
 {
     if c < 161 {

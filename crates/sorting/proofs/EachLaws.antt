@@ -17,10 +17,10 @@ module _ {A : Type 0} where
   each_both P Q R f [] g h = tt
   each_both P Q R f (x ∷ xs) g h = (f x g.0 h.0, each_both P Q R f xs g.1 h.1)
 
-  pub each-by-place : (P : A → Type 0) (d : A) (xs : List A) → ((i : ℕ) → P (get_or xs i d)) → Each P xs
+  pub each_by_place : (P : A → Type 0) (d : A) (xs : List A) → ((i : ℕ) → P (get_or xs i d)) → Each P xs
   unfolding Each
-  each-by-place P d [] h = tt
-  each-by-place P d (x ∷ xs) h = (h 0, each-by-place P d xs (λ i. h (suc i)))
+  each_by_place P d [] h = tt
+  each_by_place P d (x ∷ xs) h = (h 0, each_by_place P d xs (λ i. h (suc i)))
 
   module _ (P : A → Type 0) where
     pub each_append : (xs ys : List A) → Each P xs → Each P ys → Each P (xs ++ ys)
@@ -34,15 +34,15 @@ module _ {A : Type 0} where
     each_take (suc n) [] h = tt
     each_take (suc n) (x ∷ xs) h = (h.0, each_take n xs h.1)
 
-    pub each-drop : (n : ℕ) (xs : List A) → Each P xs → Each P (drop n xs)
+    pub each_drop : (n : ℕ) (xs : List A) → Each P xs → Each P (drop n xs)
     unfolding Each
-    each-drop zero xs h = h
-    each-drop (suc n) [] h = tt
-    each-drop (suc n) (x ∷ xs) h = each-drop n xs h.1
+    each_drop zero xs h = h
+    each_drop (suc n) [] h = tt
+    each_drop (suc n) (x ∷ xs) h = each_drop n xs h.1
 
-    pub each-permuted : {xs ys : List A} → Permᴰ xs ys → Each P xs → Each P ys
+    pub each_permuted : {xs ys : List A} → Permᴰ xs ys → Each P xs → Each P ys
     unfolding Each
-    each-permuted Permᴰ.nil h = tt
-    each-permuted (Permᴰ.cons e d) h = (subst P e h.0, each-permuted d h.1)
-    each-permuted (Permᴰ.swap e f) h = (subst P f h.1.0, (subst P e h.0, h.1.1))
-    each-permuted (Permᴰ.trans d e) h = each-permuted e (each-permuted d h)
+    each_permuted Permᴰ.nil h = tt
+    each_permuted (Permᴰ.cons e d) h = (subst P e h.0, each_permuted d h.1)
+    each_permuted (Permᴰ.swap e f) h = (subst P f h.1.0, (subst P e h.0, h.1.1))
+    each_permuted (Permᴰ.trans d e) h = each_permuted e (each_permuted d h)

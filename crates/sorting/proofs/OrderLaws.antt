@@ -23,9 +23,9 @@ same_head : (a b : ℕ) (x y : List ℕ) → a ≡ b → precedes (a ∷ x) (b �
 unfolding precedes
 same_head a b x y h = rw (le-ltb a b (omega arith), eq-eqb a b h)
 
-after-head : (a b : ℕ) (x y : List ℕ) → b < a → precedes (a ∷ x) (b ∷ y) ≡ false
+after_head : (a b : ℕ) (x y : List ℕ) → b < a → precedes (a ∷ x) (b ∷ y) ≡ false
 unfolding precedes
-after-head a b x y h = rw (le-ltb a b (omega arith), ne_eqb a b (λ (e : a ≡ b). omega arith))
+after_head a b x y h = rw (le-ltb a b (omega arith), ne_eqb a b (λ (e : a ≡ b). omega arith))
 
 data Way (a b : ℕ) : Type 0 where
   less : a < b → Way a b
@@ -46,23 +46,23 @@ heads a b x y p = go (way a b)
     go : Way a b → (a < b) ⊎ ((a ≡ b) × (precedes x y ≡ true))
     go (less h) = inl h
     go (equal h) = inr (h, sym (same_head a b x y h) ∙ p)
-    go (more h) = absurd (false≢true (sym (after-head a b x y h) ∙ p))
+    go (more h) = absurd (false≢true (sym (after_head a b x y h) ∙ p))
 
 -- ---- a strict total order
 
-pub precedes-irreflexive : (x : List ℕ) → precedes x x ≡ false
+pub precedes_irreflexive : (x : List ℕ) → precedes x x ≡ false
 unfolding precedes
-precedes-irreflexive [] = refl
-precedes-irreflexive (a ∷ x) = same_head a a x x refl ∙ precedes-irreflexive x
+precedes_irreflexive [] = refl
+precedes_irreflexive (a ∷ x) = same_head a a x x refl ∙ precedes_irreflexive x
 
-pub precedes-transitive : (x y z : List ℕ) → precedes x y ≡ true → precedes y z ≡ true → precedes x z ≡ true
+pub precedes_transitive : (x y z : List ℕ) → precedes x y ≡ true → precedes y z ≡ true → precedes x z ≡ true
 unfolding precedes
-precedes-transitive [] [] z p q = absurd (false≢true p)
-precedes-transitive [] (b ∷ y) [] p q = absurd (false≢true q)
-precedes-transitive [] (b ∷ y) (c ∷ z) p q = refl
-precedes-transitive (a ∷ x) [] z p q = absurd (false≢true p)
-precedes-transitive (a ∷ x) (b ∷ y) [] p q = absurd (false≢true q)
-precedes-transitive (a ∷ x) (b ∷ y) (c ∷ z) p q = go (precedes-transitive x y z) (heads a b x y p) (heads b c y z q)
+precedes_transitive [] [] z p q = absurd (false≢true p)
+precedes_transitive [] (b ∷ y) [] p q = absurd (false≢true q)
+precedes_transitive [] (b ∷ y) (c ∷ z) p q = refl
+precedes_transitive (a ∷ x) [] z p q = absurd (false≢true p)
+precedes_transitive (a ∷ x) (b ∷ y) [] p q = absurd (false≢true q)
+precedes_transitive (a ∷ x) (b ∷ y) (c ∷ z) p q = go (precedes_transitive x y z) (heads a b x y p) (heads b c y z q)
   where
     go : (precedes x y ≡ true → precedes y z ≡ true → precedes x z ≡ true) → (a < b) ⊎ ((a ≡ b) × (precedes x y ≡ true))
         → (b < c) ⊎ ((b ≡ c) × (precedes y z ≡ true)) → precedes (a ∷ x) (c ∷ z) ≡ true
@@ -71,19 +71,19 @@ precedes-transitive (a ∷ x) (b ∷ y) (c ∷ z) p q = go (precedes-transitive 
     go ih (inr h) (inl k) = before_head a c x z (omega arith)
     go ih (inr h) (inr k) = same_head a c x z (h.0 ∙ k.0) ∙ ih h.1 k.1
 
-pub precedes-asymmetric : (x y : List ℕ) → precedes x y ≡ true → precedes y x ≡ false
-precedes-asymmetric x y p = go (precedes y x) refl
+pub precedes_asymmetric : (x y : List ℕ) → precedes x y ≡ true → precedes y x ≡ false
+precedes_asymmetric x y p = go (precedes y x) refl
   where
     go : (t : Bool) → precedes y x ≡ t → precedes y x ≡ false
     go false e = e
-    go true e = absurd (false≢true (sym (precedes-irreflexive x) ∙ precedes-transitive x y x p e))
+    go true e = absurd (false≢true (sym (precedes_irreflexive x) ∙ precedes_transitive x y x p e))
 
-pub precedes-total : (x y : List ℕ) → precedes x y ≡ false → precedes y x ≡ false → x ≡ y
+pub precedes_total : (x y : List ℕ) → precedes x y ≡ false → precedes y x ≡ false → x ≡ y
 unfolding precedes
-precedes-total [] [] p q = refl
-precedes-total [] (b ∷ y) p q = absurd (false≢true (sym p))
-precedes-total (a ∷ x) [] p q = absurd (false≢true (sym q))
-precedes-total (a ∷ x) (b ∷ y) p q = go (precedes-total x y) (way a b)
+precedes_total [] [] p q = refl
+precedes_total [] (b ∷ y) p q = absurd (false≢true (sym p))
+precedes_total (a ∷ x) [] p q = absurd (false≢true (sym q))
+precedes_total (a ∷ x) (b ∷ y) p q = go (precedes_total x y) (way a b)
   where
     go : (precedes x y ≡ false → precedes y x ≡ false → x ≡ y) → Way a b → a ∷ x ≡ b ∷ y
     go ih (less h) = absurd (false≢true (sym p ∙ before_head a b x y h))
@@ -91,12 +91,12 @@ precedes-total (a ∷ x) (b ∷ y) p q = go (precedes-total x y) (way a b)
     go ih (more h) = absurd (false≢true (sym q ∙ before_head b a y x h))
 
 -- what comes before x comes before whatever does not come before x
-pub precedes-on : (w x y : List ℕ) → precedes w x ≡ true → precedes y x ≡ false → precedes w y ≡ true
-precedes-on w x y p q = go (precedes x y) refl
+pub precedes_on : (w x y : List ℕ) → precedes w x ≡ true → precedes y x ≡ false → precedes w y ≡ true
+precedes_on w x y p q = go (precedes x y) refl
   where
     go : (t : Bool) → precedes x y ≡ t → precedes w y ≡ true
-    go true e = precedes-transitive w x y p e
-    go false e = rw (precedes-total y x q e) p
+    go true e = precedes_transitive w x y p e
+    go false e = rw (precedes_total y x q e) p
 
 -- not to come before is transitive too
 pub follows : (x y z : List ℕ) → precedes x y ≡ false → precedes y z ≡ false → precedes x z ≡ false
@@ -104,7 +104,7 @@ follows x y z p q = go (precedes x z) refl
   where
     go : (t : Bool) → precedes x z ≡ t → precedes x z ≡ false
     go false e = e
-    go true e = absurd (false≢true (sym p ∙ precedes-on x z y e q))
+    go true e = absurd (false≢true (sym p ∙ precedes_on x z y e q))
 
 -- ---- byte by byte, from the byte i on
 
@@ -114,17 +114,17 @@ none_before [] = refl
 none_before (a ∷ x) = refl
 
 module _ (x y : List ℕ) (i : ℕ) where
-  pub scan-end : length y ≤ i → precedes (drop i x) (drop i y) ≡ false
-  scan-end h = rw (drop_of_length-le y {i = i} h) (none_before (drop i x))
+  pub scan_end : length y ≤ i → precedes (drop i x) (drop i y) ≡ false
+  scan_end h = rw (drop_of_length-le y {i = i} h) (none_before (drop i x))
 
-  pub scan-prefix : length x ≤ i → i < length y → precedes (drop i x) (drop i y) ≡ true
+  pub scan_prefix : length x ≤ i → i < length y → precedes (drop i x) (drop i y) ≡ true
   unfolding precedes
-  scan-prefix h g = rw (drop_of_length-le x {i = i} h, drop-cons y i 0 g)
+  scan_prefix h g = rw (drop_of_length-le x {i = i} h, drop-cons y i 0 g)
 
   module _ (h : i < length x) (g : i < length y) where
-    pub scan-differ : (get_or x i 0 ≡ get_or y i 0 → ⊥) → precedes (drop i x) (drop i y) ≡ ltb (get_or x i 0) (get_or y i 0)
+    pub scan_differ : (get_or x i 0 ≡ get_or y i 0 → ⊥) → precedes (drop i x) (drop i y) ≡ ltb (get_or x i 0) (get_or y i 0)
     unfolding precedes
-    scan-differ e = rw (drop-cons x i 0 h, drop-cons y i 0 g, ne_eqb _ _ e) (or-false _)
+    scan_differ e = rw (drop-cons x i 0 h, drop-cons y i 0 g, ne_eqb _ _ e) (or-false _)
 
-    pub scan-on : get_or x i 0 ≡ get_or y i 0 → precedes (drop i x) (drop i y) ≡ precedes (drop (i + 1) x) (drop (i + 1) y)
-    scan-on e = rw (add-one, drop-cons x i 0 h, drop-cons y i 0 g) (same_head _ _ _ _ e)
+    pub scan_on : get_or x i 0 ≡ get_or y i 0 → precedes (drop i x) (drop i y) ≡ precedes (drop (i + 1) x) (drop (i + 1) y)
+    scan_on e = rw (add-one, drop-cons x i 0 h, drop-cons y i 0 g) (same_head _ _ _ _ e)

@@ -1,4 +1,4 @@
--- Of inner functions alone: merging two runs, the way in which `sortBy` is computed.
+-- Of inner functions alone: merging two runs, the way in which `sort_by` is computed.
 -- Assumes nothing.
 use Rattle.std.specs.Prelude.{cond, ℕ, ◌+◌, take, drop}
 use mathlib.Core.List.{List, [], ◌∷◌, ◌++◌}
@@ -10,11 +10,11 @@ module _ {A : Type 0} (key : A → List ℕ) where
   into x f [] = x ∷ f []
   into x f (y ∷ ys) = cond (precedes (key y) (key x)) (y ∷ into x f ys) (x ∷ f (y ∷ ys))
 
-  unfoldable pub mergeBy : List A → List A → List A
+  unfoldable pub merge_by : List A → List A → List A
   unfolding into
-  mergeBy [] ys = ys
-  mergeBy (x ∷ xs) ys = into x (λ zs. mergeBy xs zs) ys
+  merge_by [] ys = ys
+  merge_by (x ∷ xs) ys = into x (λ zs. merge_by xs zs) ys
 
 -- the run xs, whose h places from `from` on are free, is merged with the m elements behind them
-unfoldable pub mergedPart : (ℕ → List ℕ) → List ℕ → ℕ → ℕ → ℕ → List ℕ → List ℕ
-mergedPart key run from h m xs = take from xs ++ (mergeBy key run (take m (drop (from + h) xs)) ++ drop (from + h + m) xs)
+unfoldable pub merged_part : (ℕ → List ℕ) → List ℕ → ℕ → ℕ → ℕ → List ℕ → List ℕ
+merged_part key run from h m xs = take from xs ++ (merge_by key run (take m (drop (from + h) xs)) ++ drop (from + h + m) xs)

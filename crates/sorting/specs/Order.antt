@@ -17,13 +17,13 @@ Each P (x ∷ xs) = P x × Each P xs
 
 module _ {A : Type 0} (key : A → List ℕ) where
   -- behind the keys that come before its own, in front of the others, equal ones too
-  unfoldable pub insertBy : A → List A → List A
-  insertBy a [] = a ∷ []
-  insertBy a (b ∷ xs) = cond (precedes (key b) (key a)) (b ∷ insertBy a xs) (a ∷ b ∷ xs)
+  unfoldable pub insert_by : A → List A → List A
+  insert_by a [] = a ∷ []
+  insert_by a (b ∷ xs) = cond (precedes (key b) (key a)) (b ∷ insert_by a xs) (a ∷ b ∷ xs)
 
-  unfoldable pub sortBy : List A → List A
-  sortBy [] = []
-  sortBy (a ∷ xs) = insertBy a (sortBy xs)
+  unfoldable pub sort_by : List A → List A
+  sort_by [] = []
+  sort_by (a ∷ xs) = insert_by a (sort_by xs)
 
   -- no later key precedes an earlier one
   unfoldable pub Ascends : List A → Type 0
@@ -36,6 +36,6 @@ module _ {A : Type 0} (key : A → List ℕ) where
   Distinct (x ∷ xs) = Each (λ (y : A). key x ≡ key y → ⊥) xs × Distinct xs
 
   -- the elements of one key, as they stand
-  unfoldable pub ofKey : List ℕ → List A → List A
-  ofKey k [] = []
-  ofKey k (x ∷ xs) = cond (same (key x) k) (x ∷ ofKey k xs) (ofKey k xs)
+  unfoldable pub of_key : List ℕ → List A → List A
+  of_key k [] = []
+  of_key k (x ∷ xs) = cond (same (key x) k) (x ∷ of_key k xs) (of_key k xs)

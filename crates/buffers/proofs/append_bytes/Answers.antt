@@ -2,11 +2,11 @@
 -- Assumes nothing.
 use native.Mathlib.Omega.{arith}
 use lib.ListN.{length-set}
-use Rattle.buffers.proofs.Appending.{copy-none, copy_more, copy-all}
+use Rattle.buffers.proofs.Appending.{copy_none, copy_more, copy_all}
 use Rattle.buffers.proofs.append_bytes.Goals as goal
 
 pub loop-i-init : goal.loop-i-init
-loop-i-init c = (omega arith, omega arith, copy-none c.args.at c.args.s.now c.args.out.now)
+loop-i-init c = (omega arith, omega arith, copy_none c.args.at c.args.s.now c.args.out.now)
 
 pub loop-i-preserved : goal.loop-i-preserved
 loop-i-preserved c =
@@ -18,4 +18,4 @@ pub returns : goal.returns
 returns c =
     let l = c.loop-i in
     let a = c.args in
-    copy-all a.at l.i a.s.now l.out a.out.now (omega arith) l.invariant.2
+    copy_all a.at l.i a.s.now l.out a.out.now (omega arith) l.invariant.2

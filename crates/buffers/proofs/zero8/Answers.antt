@@ -2,11 +2,11 @@
 -- Assumes nothing.
 use native.Mathlib.Omega.{arith}
 use lib.ListN.{length-set}
-use Rattle.buffers.proofs.Clearing.{zero-none, zero_more, zero-all}
+use Rattle.buffers.proofs.Clearing.{zero_none, zero_more, zero_all}
 use Rattle.buffers.proofs.zero8.Goals as goal
 
 pub loop-i-init : goal.loop-i-init
-loop-i-init c = (omega arith, omega arith, omega arith, zero-none c.args.from c.args.bytes.now)
+loop-i-init c = (omega arith, omega arith, omega arith, zero_none c.args.from c.args.bytes.now)
 
 pub loop-i-smaller : goal.loop-i-smaller
 loop-i-smaller c = simp length-set (omega arith)
@@ -21,4 +21,4 @@ pub returns : goal.returns
 returns c =
     let l = c.loop-i in
     let a = c.args in
-    zero-all a.from l.i l.bytes a.bytes.now (omega arith) (omega arith) l.invariant.3
+    zero_all a.from l.i l.bytes a.bytes.now (omega arith) (omega arith) l.invariant.3

@@ -3,7 +3,7 @@
 use mathlib.Core.Path.{◌≡◌}
 use Prim.Native.Nat.{ℕ}
 use native.Mathlib.Omega.{arith}
-use Rattle.chars.proofs.Spacing.{begins-past}
+use Rattle.chars.proofs.Spacing.{begins_past}
 use Rattle.chars.proofs.begins_past_space.Goals as goal
 
 pub returns-then-s-eq0 : goal.returns-then-s-eq0
@@ -13,4 +13,4 @@ pub returns : goal.returns
 returns c = λ e.
     let s = c.args.s.now in
     let h = c.is_past_space.ensures e in
-    begins-past s (omega (arith, c.if-s-eq0.false)) h.0 h.1
+    begins_past s (omega (arith, c.if-s-eq0.false)) h.0 h.1

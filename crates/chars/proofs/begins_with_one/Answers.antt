@@ -3,7 +3,7 @@
 use mathlib.Core.Path.{◌≡◌}
 use Prim.Native.Nat.{ℕ}
 use native.Mathlib.Omega.{arith}
-use Rattle.chars.proofs.Spacing.{one-space}
+use Rattle.chars.proofs.Spacing.{one_space}
 use Rattle.chars.proofs.begins_with_one.Goals as goal
 
 pub returns-then-s-lt2 : goal.returns-then-s-lt2
@@ -16,4 +16,4 @@ pub returns : goal.returns
 returns c = λ e.
     let s = c.args.s.now in
     let h = c.is_past_space.ensures e in
-    (omega (arith, c.if-s-lt2.false), one-space s c.if-s-lt2.false c.if-s-ne32.false h.0 h.1)
+    (omega (arith, c.if-s-lt2.false), one_space s c.if-s-lt2.false c.if-s-ne32.false h.0 h.1)

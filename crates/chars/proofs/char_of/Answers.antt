@@ -1,23 +1,23 @@
 -- `chars::char_of` meets its contract: each return follows from the tests that led there.
 -- Assumes nothing.
 use borrow.Author.Tests.{lt-ltb, le-ltb}
-use Rattle.chars.specs.Utf8.{charOf}
+use Rattle.chars.specs.Utf8.{char_of}
 use Rattle.chars.proofs.char_of.Goals as goal
 
 pub returns-then-a-lt128 : goal.returns-then-a-lt128
-unfolding charOf
+unfolding char_of
 returns-then-a-lt128 c = simp (lt-ltb _ _ c.if-a-lt128.true)
 
 pub returns-then-a-lt194 : goal.returns-then-a-lt194
-unfolding charOf
+unfolding char_of
 returns-then-a-lt194 c = simp (le-ltb _ _ c.if-a-lt128.false, lt-ltb _ _ c.if-a-lt194.true)
 
 pub returns-then-a-gt244 : goal.returns-then-a-gt244
-unfolding charOf
+unfolding char_of
 returns-then-a-gt244 c = simp (le-ltb _ _ c.if-a-lt128.false, le-ltb _ _ c.if-a-lt194.false, lt-ltb _ _ c.if-a-gt244.true)
 
 pub returns-then-b-lo : goal.returns-then-b-lo
-unfolding charOf
+unfolding char_of
 returns-then-b-lo c =
     simp (
       le-ltb _ _ c.if-a-lt128.false,
@@ -27,7 +27,7 @@ returns-then-b-lo c =
     )
 
 pub returns-then-hi-b : goal.returns-then-hi-b
-unfolding charOf
+unfolding char_of
 returns-then-hi-b c =
     simp (
       le-ltb _ _ c.if-a-lt128.false,
@@ -38,7 +38,7 @@ returns-then-hi-b c =
     )
 
 pub returns : goal.returns
-unfolding charOf
+unfolding char_of
 returns c =
     simp (
       le-ltb _ _ c.if-a-lt128.false,

@@ -3,8 +3,8 @@
 use mathlib.Core.Path.{refl, sym, ap, ◌∙◌}
 use native.Mathlib.Omega.{arith}
 use lib.ListN.{drop, length-drop, drop_of_length-le}
-use Rattle.chars.specs.Utf8.{utf8From, utf8}
-use Rattle.chars.proofs.Reading.{char-stuck}
+use Rattle.chars.specs.Utf8.{utf8_from, utf8}
+use Rattle.chars.proofs.Reading.{char_stuck}
 use Rattle.chars.proofs.is_utf8.Goals as goal
 
 pub loop-at-init : goal.loop-at-init
@@ -17,7 +17,7 @@ pub returns-then-n-eq0 : goal.returns-then-n-eq0
 returns-then-n-eq0 c =
     let l = c.loop-at in
     let s = c.args.s.now in
-    sym (l.invariant.1 ∙ char-stuck (drop l.at s) (omega (arith, length-drop l.at s, c.loop-at-test.true)) (c.advance-n.ensures.stuck c.if-n-eq0.true))
+    sym (l.invariant.1 ∙ char_stuck (drop l.at s) (omega (arith, length-drop l.at s, c.loop-at-test.true)) (c.advance-n.ensures.stuck c.if-n-eq0.true))
 
 pub overflow_add-at : goal.overflow_add-at
 overflow_add-at c = omega (arith, c.advance-n.ensures.inside)
@@ -29,7 +29,7 @@ pub loop-at-preserved : goal.loop-at-preserved
 loop-at-preserved c = (c.advance-n.ensures.inside, c.loop-at.invariant.1 ∙ c.advance-n.ensures.onward)
 
 pub returns : goal.returns
-unfolding utf8From
+unfolding utf8_from
 returns c =
     let s = c.args.s.now in
     sym (c.loop-at.invariant.1 ∙ ap utf8 (drop_of_length-le s c.loop-at-test.false))

@@ -5,22 +5,22 @@ use mathlib.Core.Bool.{false}
 use Prim.Native.Nat.{ℕ}
 use lib.Dec.{eqb}
 use borrow.Author.Tests.{eq-eqb, ne_eqb}
-use Rattle.chars.specs.White.{within, wideWhite}
+use Rattle.chars.specs.White.{within, wide_white}
 use Rattle.chars.proofs.is_wide_white.Goals as goal
 
 -- where all tests but the last failed, the last decides
 last : (c : ℕ) → (c ≡ 0x85 → ⊥) → (c ≡ 0xA0 → ⊥) → (c ≡ 0x1680 → ⊥) → within 0x2000 0x200A c ≡ false
-    → (c ≡ 0x2028 → ⊥) → (c ≡ 0x2029 → ⊥) → (c ≡ 0x202F → ⊥) → (c ≡ 0x205F → ⊥) → eqb c 0x3000 ≡ wideWhite c
-unfolding wideWhite
+    → (c ≡ 0x2028 → ⊥) → (c ≡ 0x2029 → ⊥) → (c ≡ 0x202F → ⊥) → (c ≡ 0x205F → ⊥) → eqb c 0x3000 ≡ wide_white c
+unfolding wide_white
 last c f1 f2 f3 f4 f5 f6 f7 f8 =
     rw (ne_eqb c 0x85 f1, ne_eqb c 0xA0 f2, ne_eqb c 0x1680 f3, f4, ne_eqb c 0x2028 f5, ne_eqb c 0x2029 f6, ne_eqb c 0x202F f7, ne_eqb c 0x205F f8)
 
 pub returns-then-c-eq133 : goal.returns-then-c-eq133
-unfolding wideWhite
+unfolding wide_white
 returns-then-c-eq133 c = simp (eq-eqb _ _ c.if-c-eq133.true)
 
 pub returns-then-c-eq160 : goal.returns-then-c-eq160
-unfolding wideWhite
+unfolding wide_white
 returns-then-c-eq160 c =
     simp (
       ne_eqb _ _ c.if-c-eq133.false,
@@ -28,7 +28,7 @@ returns-then-c-eq160 c =
     )
 
 pub returns-then-c-eq5760 : goal.returns-then-c-eq5760
-unfolding wideWhite
+unfolding wide_white
 returns-then-c-eq5760 c =
     simp (
       ne_eqb _ _ c.if-c-eq133.false,
@@ -37,7 +37,7 @@ returns-then-c-eq5760 c =
     )
 
 pub returns-then-is_within : goal.returns-then-is_within
-unfolding wideWhite
+unfolding wide_white
 returns-then-is_within c =
     simp (
       ne_eqb _ _ c.if-c-eq133.false,
@@ -47,7 +47,7 @@ returns-then-is_within c =
     )
 
 pub returns-then-c-eq8232 : goal.returns-then-c-eq8232
-unfolding wideWhite
+unfolding wide_white
 returns-then-c-eq8232 c =
     simp (
       ne_eqb _ _ c.if-c-eq133.false,
@@ -58,7 +58,7 @@ returns-then-c-eq8232 c =
     )
 
 pub returns-then-c-eq8233 : goal.returns-then-c-eq8233
-unfolding wideWhite
+unfolding wide_white
 returns-then-c-eq8233 c =
     simp (
       ne_eqb _ _ c.if-c-eq133.false,
@@ -70,7 +70,7 @@ returns-then-c-eq8233 c =
     )
 
 pub returns-then-c-eq8239 : goal.returns-then-c-eq8239
-unfolding wideWhite
+unfolding wide_white
 returns-then-c-eq8239 c =
     simp (
       ne_eqb _ _ c.if-c-eq133.false,
@@ -83,7 +83,7 @@ returns-then-c-eq8239 c =
     )
 
 pub returns-then-c-eq8287 : goal.returns-then-c-eq8287
-unfolding wideWhite
+unfolding wide_white
 returns-then-c-eq8287 c =
     simp (
       ne_eqb _ _ c.if-c-eq133.false,

@@ -2,11 +2,11 @@
 -- Assumes nothing.
 use mathlib.Core.Path.{◌≡◌}
 use lib.ListN.{length}
-use Rattle.chars.specs.White.{trimStart}
+use Rattle.chars.specs.White.{trim_start}
 use Rattle.chars.proofs.strip_start.Given as goal
 
 abbrev pub invariant-loop-t : goal.invariant-loop-t
-invariant-loop-t l = trimStart l.s ≡ trimStart l.t
+invariant-loop-t l = trim_start l.s ≡ trim_start l.t
 
 abbrev pub decreases-loop-t : goal.decreases-loop-t
 decreases-loop-t l = length l.t

@@ -3,11 +3,11 @@
 use mathlib.Core.Path.{sym, ◌∙◌}
 use native.Mathlib.Omega.{arith}
 use Rattle.buffers.proofs.Appending.{take_rest}
-use Rattle.chars.proofs.Trimming.{trim-start-stays}
+use Rattle.chars.proofs.Trimming.{trim_start_stays}
 use Rattle.chars.proofs.trim_start.Goals as goal
 
 pub returns-then-begins_past_space : goal.returns-then-begins_past_space
-returns-then-begins_past_space c = sym (trim-start-stays c.args.s.now (c.begins_past_space.ensures c.if-begins_past_space.true))
+returns-then-begins_past_space c = sym (trim_start_stays c.args.s.now (c.begins_past_space.ensures c.if-begins_past_space.true))
 
 pub slice_bounds-result-count : goal.slice_bounds-result-count
 slice_bounds-result-count c = omega (arith, (c.begins_with_one.ensures c.if-begins_with_one.true).0)

@@ -4,15 +4,15 @@ use mathlib.Core.Path.{◌≡◌, refl, sym, ap, ◌∙◌}
 use mathlib.Core.Bool.{cond}
 use mathlib.Core.List.{List}
 use Prim.Native.Nat.{ℕ}
-use Rattle.chars.specs.Utf8.{charAt}
-use Rattle.chars.specs.White.{white, widthOf, whiteAt}
+use Rattle.chars.specs.Utf8.{char_at}
+use Rattle.chars.specs.White.{white, width_of, white_at}
 use Rattle.chars.specs.declared.Step.TheVariants.{Char}
 use Rattle.chars.proofs.Ending.{right}
 use Rattle.chars.proofs.wide_width.Goals as goal
 
-found : (s : List ℕ) (c n r : ℕ) → charAt s ≡ Char c n → cond (white c) n 0 ≡ r → r ≡ whiteAt s
-unfolding whiteAt
-found s c n r e w = sym w ∙ sym (ap widthOf e)
+found : (s : List ℕ) (c n r : ℕ) → char_at s ≡ Char c n → cond (white c) n 0 ≡ r → r ≡ white_at s
+unfolding white_at
+found s c n r e w = sym w ∙ sym (ap width_of e)
 
 pub returns-then-is_white : goal.returns-then-is_white
 returns-then-is_white c =
@@ -29,8 +29,8 @@ returns-else-is_white c =
     record { value = both.0; upper_bound = both.1 }
 
 pub returns-in-Bad : goal.returns-in-Bad
-unfolding whiteAt
+unfolding white_at
 returns-in-Bad c =
     let s = c.args.s.now in
-    let both = right s 0 (sym (ap widthOf (sym c.decode_char.ensures ∙ c.in-Bad.is))) in
+    let both = right s 0 (sym (ap width_of (sym c.decode_char.ensures ∙ c.in-Bad.is))) in
     record { value = both.0; upper_bound = both.1 }

@@ -3,23 +3,23 @@
 use mathlib.Core.Path.{sym, ◌∙◌}
 use native.Mathlib.Omega.{arith}
 use lib.Seq.{length-take-le}
-use Rattle.escapes.proofs.Entry.{decode-too-long, no-utf8, decode-no-room, decode-written}
+use Rattle.escapes.proofs.Entry.{decode_too_long, no_utf8, decode_no_room, decode_written}
 use Rattle.escapes.proofs.decode.Goals as goal
 
 pub returns-then-not-text_fits : goal.returns-then-not-text_fits
 returns-then-not-text_fits c =
     let a = c.args in
-    decode-too-long a.text.now a.out.now (sym c.text_fits.ensures ∙ c.if-not-text_fits.true)
+    decode_too_long a.text.now a.out.now (sym c.text_fits.ensures ∙ c.if-not-text_fits.true)
 
 pub returns-then-not-is_utf8 : goal.returns-then-not-is_utf8
 returns-then-not-is_utf8 c =
     let a = c.args in
-    no-utf8 a.text.now a.out.now (sym c.text_fits.ensures ∙ c.if-not-text_fits.false) (sym c.is_utf8.ensures ∙ c.if-not-is_utf8.true)
+    no_utf8 a.text.now a.out.now (sym c.text_fits.ensures ∙ c.if-not-text_fits.false) (sym c.is_utf8.ensures ∙ c.if-not-is_utf8.true)
 
 pub returns-then-out-n : goal.returns-then-out-n
 returns-then-out-n c =
     let a = c.args in
-    decode-no-room a.text.now a.out.now (sym c.text_fits.ensures ∙ c.if-not-text_fits.false) (sym c.is_utf8.ensures ∙ c.if-not-is_utf8.false) c.unescaped_length-n.result c.unescaped_length-n.ensures c.if-out-n.true
+    decode_no_room a.text.now a.out.now (sym c.text_fits.ensures ∙ c.if-not-text_fits.false) (sym c.is_utf8.ensures ∙ c.if-not-is_utf8.false) c.unescaped_length-n.result c.unescaped_length-n.ensures c.if-out-n.true
 
 pub slice_bounds-append_unescaped-end-2 : goal.slice_bounds-append_unescaped-end-2
 slice_bounds-append_unescaped-end-2 c = sym (length-take-le c.unescaped_length-n.result c.args.out.now c.if-out-n.false)
@@ -33,4 +33,4 @@ returns c =
     let a = c.args in
     let w = c.append_unescaped in
     let n = c.unescaped_length-n in
-    decode-written a.text.now a.out.now (sym c.text_fits.ensures ∙ c.if-not-text_fits.false) (sym c.is_utf8.ensures ∙ c.if-not-is_utf8.false) n.result n.ensures w.new.out w.result c.if-out-n.false w.auto.out w.ensures
+    decode_written a.text.now a.out.now (sym c.text_fits.ensures ∙ c.if-not-text_fits.false) (sym c.is_utf8.ensures ∙ c.if-not-is_utf8.false) n.result n.ensures w.new.out w.result c.if-out-n.false w.auto.out w.ensures

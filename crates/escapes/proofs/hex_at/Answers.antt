@@ -3,11 +3,11 @@
 use mathlib.Core.Logic.{inl, inr}
 use native.Mathlib.Omega.{arith}
 use lib.ListN.{get_or-eq_default}
-use Rattle.escapes.proofs.Digits.{decimal_digit, upper, lower, no_digit, zero-no-digit}
+use Rattle.escapes.proofs.Digits.{decimal_digit, upper, lower, no_digit, zero_no_digit}
 use Rattle.escapes.proofs.hex_at.Goals as goal
 
 pub returns-then-s-i : goal.returns-then-s-i
-returns-then-s-i c = (zero-no-digit (get_or-eq_default c.args.s.now 0 c.if-s-i.true), omega arith)
+returns-then-s-i c = (zero_no_digit (get_or-eq_default c.args.s.now 0 c.if-s-i.true), omega arith)
 
 pub returns-then-b-lt48 : goal.returns-then-b-lt48
 returns-then-b-lt48 c = (no_digit _ (inl c.if-b-lt48.true) (inl (omega arith)) (inl (omega arith)), omega arith)

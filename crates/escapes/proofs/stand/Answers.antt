@@ -5,7 +5,7 @@ use Prim.Native.Nat.{◌+◌, ◌-◌}
 use native.Mathlib.Omega.{arith}
 use Rattle.escapes.specs.Walk.{unnamed}
 use Rattle.escapes.specs.declared.Escape.TheVariants.{Verbatim}
-use Rattle.escapes.proofs.Braces.{next-at, close_at, end-at}
+use Rattle.escapes.proofs.Braces.{next_digit_at, close_at, end_at}
 use Rattle.escapes.proofs.stand.Goals as goal
 
 pub loop-i-init : goal.loop-i-init
@@ -23,10 +23,10 @@ loop-i-preserved c =
     let l = c.loop-i in
     let a = c.args in
     let n : l.i + 1 - a.from ≡ l.i - a.from + 1 = omega arith in
-    (omega arith, omega arith, rw n (sym (next-at a.s.now l.i (l.i - a.from) unnamed unnamed (omega arith) c.if-s-i-eq125.false (λ h. refl)) ∙ l.invariant.2))
+    (omega arith, omega arith, rw n (sym (next_digit_at a.s.now l.i (l.i - a.from) unnamed unnamed (omega arith) c.if-s-i-eq125.false (λ h. refl)) ∙ l.invariant.2))
 
 pub returns : goal.returns
 returns c =
     let l = c.loop-i in
     let a = c.args in
-    sym (end-at a.s.now l.i (l.i - a.from) unnamed (omega arith)) ∙ l.invariant.2
+    sym (end_at a.s.now l.i (l.i - a.from) unnamed (omega arith)) ∙ l.invariant.2

@@ -8,25 +8,25 @@ use lib.ListN.{length, drop}
 use Prim.Native.Char.{code}
 use Rattle.std.proofs.Common.{get_or}
 use Rattle.chars.specs.Utf8.{encode}
-use Rattle.escapes.specs.Unescape.{escapeAt, unescape}
-use Rattle.escapes.specs.Walk.{shortOf}
+use Rattle.escapes.specs.Unescape.{escape_at, unescape}
+use Rattle.escapes.specs.Walk.{short_of}
 use Rattle.escapes.specs.declared.Escape.TheVariants.{Char, Verbatim}
-use Rattle.escapes.proofs.Unescaping.{run_ends, run-moves, run-size, short-ends, short-size, char-ends, char-size, verbatim-ends, verbatim-size, unescape-length, unescape-end}
+use Rattle.escapes.proofs.Unescaping.{run_ends, run_moves, run_size, short_ends, short_size, char_ends, char_size, verbatim_ends, verbatim_size, unescape_length, unescape_end}
 use Rattle.escapes.proofs.unescaped_length.Goals as goal
 
 -- a place of the text that is a backslash: where its escape ends, and how long what it stands for is
 module _ (s : List ℕ) (i : ℕ) (h : i < length s) (b : get_or s i 0 ≡ code "\\") where
-  short-sized : (c : ℕ) → c ≡ shortOf (get_or s (i + 1) 0) → c < 128
+  short-sized : (c : ℕ) → c ≡ short_of (get_or s (i + 1) 0) → c < 128
       → (i + 2 ≤ length s) × (length (unescape (drop i s)) ≡ 1 + length (unescape (drop (i + 2) s)))
-  short-sized c e l = (short-ends s i h b c e l, short-size s i h b c e l)
+  short-sized c e l = (short_ends s i h b c e l, short_size s i h b c e l)
 
-  sized : (v n : ℕ) → escapeAt (drop (i + 1) s) ≡ Char v n
+  sized : (v n : ℕ) → escape_at (drop (i + 1) s) ≡ Char v n
       → (i + 1 + n ≤ length s) × (length (unescape (drop i s)) ≡ length (encode v) + length (unescape (drop (i + 1 + n) s)))
-  sized v n f = (char-ends s i h b v n f, char-size s i h b v n f)
+  sized v n f = (char_ends s i h b v n f, char_size s i h b v n f)
 
-  left : (n : ℕ) → escapeAt (drop (i + 1) s) ≡ Verbatim n
+  left : (n : ℕ) → escape_at (drop (i + 1) s) ≡ Verbatim n
       → (i + 1 + n ≤ length s) × (length (unescape (drop i s)) ≡ 1 + n + length (unescape (drop (i + 1 + n) s)))
-  left n f = (verbatim-ends s i h b n f, verbatim-size s i h b n f)
+  left n f = (verbatim_ends s i h b n f, verbatim_size s i h b n f)
 
 pub loop-i-init : goal.loop-i-init
 loop-i-init c = (omega arith, omega arith)
@@ -39,26 +39,26 @@ overflow_add-count c =
     let l = c.loop-i in
     let a = c.args in
     let r = c.plain_run-stop in
-    omega (arith, run-size a.s.now l.i r.result r.ensures l.invariant.0, l.invariant.1, unescape-length a.s.now, c.well_formed)
+    omega (arith, run_size a.s.now l.i r.result r.ensures l.invariant.0, l.invariant.1, unescape_length a.s.now, c.well_formed)
 
 pub loop-i-smaller-then-s-i-ne92 : goal.loop-i-smaller-then-s-i-ne92
 loop-i-smaller-then-s-i-ne92 c =
     let l = c.loop-i in
     let a = c.args in
     let r = c.plain_run-stop in
-    omega (arith, run-moves a.s.now l.i r.result r.ensures (omega arith) c.if-s-i-ne92.true)
+    omega (arith, run_moves a.s.now l.i r.result r.ensures (omega arith) c.if-s-i-ne92.true)
 
 pub loop-i-preserved-then-s-i-ne92 : goal.loop-i-preserved-then-s-i-ne92
 loop-i-preserved-then-s-i-ne92 c =
     let l = c.loop-i in
     let a = c.args in
     let r = c.plain_run-stop in
-    (run_ends a.s.now l.i r.result r.ensures l.invariant.0, omega (arith, run-size a.s.now l.i r.result r.ensures l.invariant.0, l.invariant.1))
+    (run_ends a.s.now l.i r.result r.ensures l.invariant.0, omega (arith, run_size a.s.now l.i r.result r.ensures l.invariant.0, l.invariant.1))
 
 pub overflow_add-count-then-short_at-lt128 : goal.overflow_add-count-then-short_at-lt128
 overflow_add-count-then-short_at-lt128 c =
     let z = short-sized c.args.s.now c.loop-i.i c.loop-i-test.true c.if-s-i-ne92.false _ c.short_at.ensures c.if-short_at-lt128.true in
-    let l = c.loop-i in omega (arith, z.1, l.invariant.1, unescape-length c.args.s.now, c.well_formed)
+    let l = c.loop-i in omega (arith, z.1, l.invariant.1, unescape_length c.args.s.now, c.well_formed)
 
 pub loop-i-smaller-then-short_at-lt128 : goal.loop-i-smaller-then-short_at-lt128
 loop-i-smaller-then-short_at-lt128 c =
@@ -76,7 +76,7 @@ escape_at-requires c = omega (arith, c.loop-i-test.true)
 pub overflow_add-count-in-Char : goal.overflow_add-count-in-Char
 overflow_add-count-in-Char c =
     let z = sized c.args.s.now c.loop-i.i c.loop-i-test.true c.if-s-i-ne92.false c.in-Char.c c.in-Char.n (sym c.escape_at.ensures ∙ c.in-Char.is) in
-    let l = c.loop-i in omega (arith, z.1, l.invariant.1, c.char_length-count.ensures.0, unescape-length c.args.s.now, c.well_formed)
+    let l = c.loop-i in omega (arith, z.1, l.invariant.1, c.char_length-count.ensures.0, unescape_length c.args.s.now, c.well_formed)
 
 pub overflow_add-i-in-Char-2 : goal.overflow_add-i-in-Char-2
 overflow_add-i-in-Char-2 c =
@@ -96,12 +96,12 @@ loop-i-preserved-in-Char c =
 pub overflow_add-count-in-Verbatim : goal.overflow_add-count-in-Verbatim
 overflow_add-count-in-Verbatim c =
     let z = left c.args.s.now c.loop-i.i c.loop-i-test.true c.if-s-i-ne92.false c.in-Verbatim.n (sym c.escape_at.ensures ∙ c.in-Verbatim.is) in
-    let l = c.loop-i in omega (arith, z.1, l.invariant.1, unescape-length c.args.s.now, c.well_formed)
+    let l = c.loop-i in omega (arith, z.1, l.invariant.1, unescape_length c.args.s.now, c.well_formed)
 
 pub overflow_add-count-in-Verbatim-2 : goal.overflow_add-count-in-Verbatim-2
 overflow_add-count-in-Verbatim-2 c =
     let z = left c.args.s.now c.loop-i.i c.loop-i-test.true c.if-s-i-ne92.false c.in-Verbatim.n (sym c.escape_at.ensures ∙ c.in-Verbatim.is) in
-    let l = c.loop-i in omega (arith, z.1, l.invariant.1, unescape-length c.args.s.now, c.well_formed)
+    let l = c.loop-i in omega (arith, z.1, l.invariant.1, unescape_length c.args.s.now, c.well_formed)
 
 pub overflow_add-i-in-Verbatim-2 : goal.overflow_add-i-in-Verbatim-2
 overflow_add-i-in-Verbatim-2 c =
@@ -122,4 +122,4 @@ pub returns : goal.returns
 returns c =
     let l = c.loop-i in
     let a = c.args in
-    omega (arith, l.invariant.1, ap length (unescape-end a.s.now l.i c.loop-i-test.false))
+    omega (arith, l.invariant.1, ap length (unescape_end a.s.now l.i c.loop-i-test.false))

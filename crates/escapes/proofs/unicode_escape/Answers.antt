@@ -8,24 +8,24 @@ use native.Mathlib.Omega.{arith}
 use lib.ListN.{drop, get_or, get_or-eq_default}
 use Rattle.escapes.specs.Unescape.{named}
 use Rattle.escapes.specs.Walk.{braces, unnamed, numbered}
-use Rattle.escapes.proofs.Braces.{next-at, no-name-at, end-at, first-underscore, first-plus, first-at}
-use Rattle.escapes.proofs.Escapes.{no-brace, brace}
+use Rattle.escapes.proofs.Braces.{next_digit_at, no_name_at, end_at, first_underscore, first_plus, first_at}
+use Rattle.escapes.proofs.Escapes.{no_brace, brace}
 use Rattle.escapes.proofs.unicode_escape.Goals as goal
 
 pub returns-then-s-open : goal.returns-then-s-open
 returns-then-s-open c =
     let a = c.args in
-    sym (no-brace a.s.now a.from (λ e. omega (arith, get_or-eq_default a.s.now 0 c.if-s-open.true)))
+    sym (no_brace a.s.now a.from (λ e. omega (arith, get_or-eq_default a.s.now 0 c.if-s-open.true)))
 
 pub returns-then-s-open-ne123 : goal.returns-then-s-open-ne123
 returns-then-s-open-ne123 c =
     let a = c.args in
-    sym (no-brace a.s.now a.from c.if-s-open-ne123.true)
+    sym (no_brace a.s.now a.from c.if-s-open-ne123.true)
 
 pub returns-then-s-first : goal.returns-then-s-first
 returns-then-s-first c =
     let a = c.args in
-    sym (brace a.s.now a.from c.if-s-open-ne123.false ∙ end-at a.s.now (a.from + 2) 2 named c.if-s-first.true)
+    sym (brace a.s.now a.from c.if-s-open-ne123.false ∙ end_at a.s.now (a.from + 2) 2 named c.if-s-first.true)
 
 pub returns-then-s-first-eq95 : goal.returns-then-s-first-eq95
 returns-then-s-first-eq95 c =
@@ -34,7 +34,7 @@ returns-then-s-first-eq95 c =
     let no : get_or a.s.now (a.from + 2) 0 ≡ code "}" → ⊥ = λ e. omega (arith, c.if-s-first-eq95.true) in
     c.stand.ensures
     ∙ ap (λ (k : ℕ). braces unnamed k (drop (a.from + 2) a.s.now)) n
-    ∙ sym (no-name-at a.s.now (a.from + 2) 2 named (omega arith) no (first-underscore _ c.if-s-first-eq95.true))
+    ∙ sym (no_name_at a.s.now (a.from + 2) 2 named (omega arith) no (first_underscore _ c.if-s-first-eq95.true))
     ∙ sym (brace a.s.now a.from c.if-s-open-ne123.false)
 
 pub returns-then-s-first-eq43 : goal.returns-then-s-first-eq43
@@ -44,7 +44,7 @@ returns-then-s-first-eq43 c =
     let no : get_or a.s.now (a.from + 2) 0 ≡ code "}" → ⊥ = λ e. omega (arith, c.if-s-first-eq43.true) in
     c.braced_number.ensures
     ∙ ap (λ (k : ℕ). braces (numbered false 0) k (drop (a.from + 2 + 1) a.s.now)) n
-    ∙ sym (next-at a.s.now (a.from + 2) 2 named (numbered false 0) (omega arith) no (first-plus _ c.if-s-first-eq43.true))
+    ∙ sym (next_digit_at a.s.now (a.from + 2) 2 named (numbered false 0) (omega arith) no (first_plus _ c.if-s-first-eq43.true))
     ∙ sym (brace a.s.now a.from c.if-s-open-ne123.false)
 
 pub returns : goal.returns
@@ -53,5 +53,5 @@ returns c =
     let n : a.from + 2 - a.from ≡ 2 = omega arith in
     c.braced_number-2.ensures
     ∙ ap (λ (k : ℕ). braces (numbered false 0) k (drop (a.from + 2) a.s.now)) n
-    ∙ sym (first-at a.s.now (a.from + 2) 2 (omega arith) c.if-s-first-eq95.false c.if-s-first-eq43.false)
+    ∙ sym (first_at a.s.now (a.from + 2) 2 (omega arith) c.if-s-first-eq95.false c.if-s-first-eq43.false)
     ∙ sym (brace a.s.now a.from c.if-s-open-ne123.false)

@@ -5,16 +5,16 @@ use mathlib.Core.List.{List}
 use Prim.Native.Nat.{ℕ}
 use Rattle.lines.specs.Entry as Lines
 use Rattle.lines.specs.declared.LineRead.{LineRead}
-use Rattle.lulzhemor.specs.Answer.{ofRead, sizesAfter}
+use Rattle.lulzhemor.specs.Answer.{of_read, sizes_after}
 use Rattle.lulzhemor.specs.Calls.{ReadCall}
 use Rattle.lulzhemor.proofs.lulzhemor_read_line.Goals as goal
 
 -- `read_line` answered r, which is a
 called : {s k n t sizes k' n' t' : List ℕ} {r a : LineRead} → r ≡ a → Lines.LineWhole s k n t r k' n' t'
-    → ReadCall s k n t sizes (ofRead a) k' n' t' (sizesAfter a sizes)
+    → ReadCall s k n t sizes (of_read a) k' n' t' (sizes_after a sizes)
 called {sizes = sizes} e w =
     let f = sym e ∙ w.answer in
-    record { answer = ap ofRead f; tables = rw w.answer at w; written = ap (λ r. sizesAfter r sizes) f }
+    record { answer = ap of_read f; tables = rw w.answer at w; written = ap (λ r. sizes_after r sizes) f }
 
 pub returns-in-Event : goal.returns-in-Event
 returns-in-Event c = called c.in-Event.is c.read_line.ensures

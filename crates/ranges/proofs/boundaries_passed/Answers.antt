@@ -6,7 +6,7 @@ use Rattle.ranges.proofs.Search.{up, down}
 use Rattle.ranges.proofs.boundaries_passed.Goals as goal
 
 pub loop-lo-init : goal.loop-lo-init
-loop-lo-init c = record { lo-le = omega arith; hi-le = omega arith; below = λ k l. omega arith; beyond = λ k l m. omega arith }
+loop-lo-init c = record { lo_le = omega arith; hi_le = omega arith; below = λ k l. omega arith; beyond = λ k l m. omega arith }
 
 pub loop-lo-preserved-then-table-mid : goal.loop-lo-preserved-then-table-mid
 loop-lo-preserved-then-table-mid c =

@@ -3,14 +3,14 @@
 use mathlib.Core.Path.{◌≡◌}
 use Prim.Native.Nat.{◌-◌}
 use lib.ListN.{length, take}
-use Rattle.sorting.specs.Merge.{mergedPart}
+use Rattle.sorting.specs.Merge.{merged_part}
 use Rattle.sorting.proofs.LoopLaws.{Merging}
-use Rattle.pack.specs.Walk.{placeKey}
+use Rattle.pack.specs.Walk.{place_key}
 use Rattle.sorting.proofs.merge_runs.Given as goal
 
 abbrev pub invariant-loop-i : goal.invariant-loop-i
 invariant-loop-i l =
-    Merging (placeKey l.numbers l.texts) l.spare l.h l.end (mergedPart (placeKey l.numbers l.texts) (take l.h l.spare) l.from l.h l.m l.initial.order) l.order l.at l.i l.right × (length l.order ≡ length l.initial.order)
+    Merging (place_key l.numbers l.texts) l.spare l.h l.end (merged_part (place_key l.numbers l.texts) (take l.h l.spare) l.from l.h l.m l.initial.order) l.order l.at l.i l.right × (length l.order ≡ length l.initial.order)
 
 abbrev pub decreases-loop-i : goal.decreases-loop-i
 decreases-loop-i l = l.end - l.at
