@@ -242,7 +242,7 @@ unfolding trim_end
 end_clean [] m h = let p = h.0 in let q = h.1 in omega arith
 end_clean (a ∷ r) m h = go (trim_start (a ∷ r)) refl h (end_clean r)
   where
-    -- all of a ∷ trimEnd r would be one White_Space character, and then a ∷ r would be blank
+    -- all of a ∷ trim_end r would be one White_Space character, and then a ∷ r would be blank
     all : length (trim_end r) < m → EndsAt (a ∷ trim_end r) m → trim_start (a ∷ r) ≡ []
     all l f =
         let k = trim_end_split r in

@@ -22,7 +22,6 @@ use Rattle.events.proofs.Answers.{answer_event}
 use Rattle.events.proofs.Bounds.{line_small}
 use Rattle.lines.specs.Entry.{line_read_of, enough, sizes_of}
 use Rattle.lines.specs.declared.LineRead.{LineRead}
-use Rattle.lines.specs.declared.LineRead.TheVariants as LineRead
 use Rattle.guarantees.specs.Keys.{AcceptedLine, tables_of, Holds, written_key}
 use Rattle.guarantees.specs.Lines.{IsRead, ReadOrBlank}
 use Rattle.guarantees.specs.Calls.{ReadInto}

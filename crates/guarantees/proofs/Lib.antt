@@ -7,7 +7,7 @@ pub mod PackKeys
 pub mod NightListing
 pub mod Merging
 pub mod ProofSet
-mod LineEntries
+pub mod LineEntries
 mod Consequence
 mod RefusalLaws
 mod LineTexts

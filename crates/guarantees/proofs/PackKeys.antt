@@ -23,7 +23,6 @@ use Rattle.events.specs.Event.{Event}
 use Rattle.events.specs.Answer.{event, line_answer, read_line}
 use Rattle.lines.specs.Entry.{enough}
 use Rattle.lines.specs.declared.LineRead.{LineRead}
-use Rattle.lines.specs.declared.LineRead.TheVariants as LineRead
 use Rattle.lines.specs.contracts.read_line
 use Rattle.lines.proofs.read_line.Symbol as ReadLineCode
 use Rattle.logs.specs.Judge.{judge_log}

@@ -14,36 +14,29 @@ use Rattle.chars.specs.Utf8.{utf8}
 use Rattle.cuts.specs.Body.{cut_body}
 use Rattle.cuts.specs.Split.{cut_places}
 use Rattle.cuts.specs.declared.Cut.{Cut}
-use Rattle.cuts.specs.declared.Cut.TheVariants as Cut
 use Rattle.escapes.specs.Entry.{decoded}
 use Rattle.escapes.specs.Unescape.{unescape}
 use Rattle.escapes.specs.declared.Decoded.{Decoded}
-use Rattle.escapes.specs.declared.Decoded.TheVariants as Decoded
 use Rattle.keys.specs.Entry.{spell_key}
 use Rattle.keys.specs.Escape.{pinned, entity_uid}
 use Rattle.keys.specs.declared.Spelled.{Spelled}
-use Rattle.keys.specs.declared.Spelled.TheVariants as Spelled
 use Rattle.pack.specs.Pack.{Pack}
 use Rattle.events.specs.Answer.{Answer, event, blank, refused, read_line}
 use Rattle.events.proofs.OutcomeLaws.{is_in, all_in, in_all, is_member}
 use Rattle.events.proofs.LineOutcomes.{read_refusals, read_refused}
 use Rattle.lines.specs.Entry.{line_read_of, enough}
 use Rattle.lines.specs.declared.LineRead.{LineRead}
-use Rattle.lines.specs.declared.LineRead.TheVariants as LineRead
 use Rattle.logs.specs.Judge.{judge_log}
 use Rattle.logs.specs.Judge as Judge
 use Rattle.logs.specs.declared.Judged.{Judged}
-use Rattle.logs.specs.declared.Judged.TheVariants as Judged
 use Rattle.listing.specs.Lines.{list_event}
 use Rattle.listing.specs.Entry.{list_answer}
 use Rattle.listing.specs.Entry as Listing
 use Rattle.listing.specs.declared.Listed.{Listed}
-use Rattle.listing.specs.declared.Listed.TheVariants as Listed
 use Rattle.event_lines.specs.Time.{fall_in}
 use Rattle.merging.specs.Merge.{merged_text, unless_refused, unless_falls, merge_logs}
 use Rattle.merging.specs.Merge as Merge
 use Rattle.merging.specs.declared.Merged.{Merged}
-use Rattle.merging.specs.declared.Merged.TheVariants as Merged
 use Rattle.guarantees.specs.Lines.{log_lines, line_numbered}
 use Rattle.guarantees.specs.Calls.{ReadInto}
 use Rattle.guarantees.specs.RefusalTable.{OneOf, refusal_table, decode_rows, spell_key_rows, cut_body_rows, read_line_rows, judge_rows, list_line_rows, merge_rows, RowsOfTheTable}

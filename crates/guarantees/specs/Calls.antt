@@ -8,7 +8,6 @@ use Rattle.events.specs.Answer as Answer
 use Rattle.events.specs.Answer.{read_line}
 use Rattle.lines.specs.Entry.{LineWhole}
 use Rattle.lines.specs.declared.LineRead.{LineRead}
-use Rattle.lines.specs.declared.LineRead.TheVariants as LineRead
 use Rattle.guarantees.specs.Keys.{keys_in, Holds, KeysMeet, KeysReadBack, KeysStoredAgain}
 
 -- What `read_line` ensures of a call, its whole contract: the line s, the three tables lent to it, its answer, and the tables as it left them.

@@ -1,5 +1,6 @@
 // The code points that `escape_debug` writes as numbers, found by binary search, and how a character is written by them.
-// Refuses nothing. `look_of` assumes that it is lent the common scripts of here, and both tables of here or none, as its `requires` says.
+// Refuses nothing. `in_ranges` assumes that its table goes up, and `look_of` that it is lent the common scripts of here, and both tables of here
+// or none, as their `requires` say.
 #![tactic(auto)]
 
 pub mod tables;
