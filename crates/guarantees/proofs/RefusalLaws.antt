@@ -1,11 +1,11 @@
 -- Which refusals the answers of the entry points can be: a test on each answer by its cases, and then the library's membership.
 -- Assumes nothing.
 use mathlib.Core.Path.{◌≡◌, refl, sym, subst}
-use mathlib.Core.Bool.{true, ◌&&◌}
+use mathlib.Core.Bool.{true, not, ◌&&◌, ◌||◌}
 use mathlib.Core.List.{List, [], ◌∷◌, Memᴰ}
 use Prim.Native.Nat.{ℕ, zero, suc}
 use borrow.Author.Tests.{leb-true, eq-eqb}
-use lib.Dec.{leb, eqb}
+use lib.Dec.{leb, ltb, eqb}
 use lib.ListN.{length}
 use Rattle.buffers.proofs.Choice.{by_cond, both_arms, or_left, or_right}
 use Rattle.format.specs.Limits.{text_limit, line_limit}
@@ -63,10 +63,10 @@ SpelledIn (Spelled.Refused n) = is_in n spell_key_rows ≡ true
 spell_in : (ty id : List ℕ) (room : ℕ) → SpelledIn (spell_key ty id room)
 unfolding spell_key is_in
 spell_in ty id room =
-    both_arms SpelledIn (leb (length ty) text_limit && leb (length id) text_limit)
-    (both_arms SpelledIn (utf8 ty && utf8 id)
-    (both_arms SpelledIn (leb (length ty) line_limit && leb (length id) line_limit)
-    (both_arms SpelledIn (leb (length (entity_uid pinned ty id)) room) tt refl) refl) refl) refl
+    both_arms SpelledIn (ltb text_limit (length ty) || ltb text_limit (length id)) refl
+    (both_arms SpelledIn (not (utf8 ty && utf8 id)) refl
+    (both_arms SpelledIn (ltb line_limit (length ty) || ltb line_limit (length id)) refl
+    (both_arms SpelledIn (ltb room (length (entity_uid pinned ty id))) refl tt)))
 
 pub spell_key_refusals : (ty id : List ℕ) (room : ℕ) {n : ℕ} → spell_key ty id room ≡ Spelled.Refused n → OneOf spell_key_rows n
 spell_key_refusals ty id room {n} h = is_member n spell_key_rows (subst SpelledIn h (spell_in ty id room))
@@ -78,9 +78,10 @@ CutIn (Cut.Refused n) = is_in n cut_body_rows ≡ true
 cut_in : (body : List ℕ) (room : ℕ) → CutIn (cut_body body room)
 unfolding cut_body is_in
 cut_in body room =
-    both_arms CutIn (leb (length body) text_limit)
-    (both_arms CutIn (utf8 body)
-    (both_arms CutIn (leb (length body) line_limit) (both_arms CutIn (leb (length (cut_places body)) room) tt refl) refl) refl) refl
+    both_arms CutIn (ltb text_limit (length body)) refl
+    (both_arms CutIn (not (utf8 body)) refl
+    (both_arms CutIn (ltb line_limit (length body)) refl
+    (both_arms CutIn (ltb room (length (cut_places body))) refl tt)))
 
 pub cut_body_refusals : (body : List ℕ) (room : ℕ) {n : ℕ} → cut_body body room ≡ Cut.Refused n → OneOf cut_body_rows n
 cut_body_refusals body room {n} h = is_member n cut_body_rows (subst CutIn h (cut_in body room))

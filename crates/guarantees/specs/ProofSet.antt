@@ -47,14 +47,17 @@ Fact8 = read_line (ascii "@0 )(") ≡ refused event_out_of_order
 
 -- 9 `K'7` and `K\'7` of type `Cell` give key `Cell::"K\'7"`: spelled from what each decodes to, and as the one stored key in the pack of the
 -- line `@0 entities(Cell::"..":{})::""::k()`, with the id as it is written
+abbrev pub cell : List ℕ
+cell = ascii "Cell"
+
 abbrev pub cell_key : List ℕ
-cell_key = ascii "Cell::\"K\\'7\""
+cell_key = cell ++ (ascii "::\"K\\'7\"")
 
 abbrev pub cell_line : List ℕ → List ℕ
-cell_line id = ascii "@0 entities(Cell::\"" ++ (id ++ ascii "\":{})::\"\"::k()")
+cell_line id = ascii "@0 entities(" ++ (cell ++ (ascii "::\"" ++ (id ++ ascii "\":{})::\"\"::k()")))
 
 abbrev pub GivesKey : List ℕ → Type 0
-GivesKey id = (entity_uid pinned (ascii "Cell") (unescape id) ≡ cell_key) × (keys_in (pack_of (read_line (cell_line id))) ≡ cell_key ∷ [])
+GivesKey id = (entity_uid pinned cell (unescape id) ≡ cell_key) × (keys_in (pack_of (read_line (cell_line id))) ≡ cell_key ∷ [])
 
 abbrev pub Fact9 : Type 0
 Fact9 = GivesKey (ascii "K'7") × GivesKey (ascii "K\\'7")

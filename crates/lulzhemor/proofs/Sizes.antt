@@ -2,15 +2,15 @@
 -- a refusal, and where a line is listed only a blank one is 0.
 -- Assumes nothing.
 use mathlib.Core.Path.{◌≡◌, subst}
-use mathlib.Core.Bool.{cond, ◌&&◌}
+use mathlib.Core.Bool.{cond, not, ◌&&◌, ◌||◌}
 use mathlib.Core.List.{List, [], ◌∷◌}
 use Prim.Native.Nat.{ℕ, suc, ◌+◌, ◌*◌, ◌≤◌, ◌<◌}
 use Prim.Native.Char.{code}
 use native.Mathlib.Omega.{arith}
-use borrow.Author.Tests.{leb-true}
-use lib.Dec.{leb, eqb}
+use borrow.Author.Tests.{leb-true, ltb-false}
+use lib.Dec.{leb, ltb, eqb}
 use lib.ListN.{length, length-append}
-use Rattle.buffers.proofs.Choice.{by_cond, both_arms, and_left, and_right}
+use Rattle.buffers.proofs.Choice.{by_cond, both_arms, or_none_left, or_none_right}
 use Rattle.format.specs.Limits.{text_limit, line_limit}
 use Rattle.format.specs.Refusals.{not_utf8}
 use Rattle.chars.specs.Utf8.{utf8}
@@ -113,13 +113,10 @@ SmallCut (cut.Refused n) = Unit {0}
 pub cut_small : (s : List ℕ) (room : ℕ) → SmallCut (cut_body s room)
 unfolding cut_body
 cut_small s room =
-    both_arms SmallCut (leb (length s) text_limit)
-    (both_arms SmallCut (utf8 s)
-    (by_cond SmallCut (leb (length s) line_limit) _ _
-    (λ h. both_arms SmallCut (leb (length (cut_places s)) room) (omega (arith, leb-true (length s) line_limit h, cut_places_le s)) tt)
-    (λ h. tt))
-    tt)
-    tt
+    both_arms SmallCut (ltb text_limit (length s)) tt
+    (both_arms SmallCut (not (utf8 s)) tt
+    (by_cond SmallCut (ltb line_limit (length s)) _ _ (λ h. tt)
+    (λ h. both_arms SmallCut (ltb room (length (cut_places s))) tt (omega (arith, ltb-false line_limit (length s) h, cut_places_le s)))))
 
 abbrev pub SmallDecoded : Decoded → Type 0
 SmallDecoded (decoding.Written n) = n ≤ text_limit
@@ -146,16 +143,13 @@ key_short ty id = simp length-append (omega (arith, escape_length pinned id))
 pub spell_small : (ty id : List ℕ) (room : ℕ) → SmallSpelled (spell_key ty id room)
 unfolding spell_key
 spell_small ty id room =
-    let t = leb (length ty) line_limit in
-    let i = leb (length id) line_limit in
-    both_arms SmallSpelled (leb (length ty) text_limit && leb (length id) text_limit)
-    (both_arms SmallSpelled (utf8 ty && utf8 id)
-    (by_cond SmallSpelled (t && i) _ _
-    (λ h. both_arms SmallSpelled (leb (length (entity_uid pinned ty id)) room)
-    (omega (arith, leb-true (length ty) line_limit (and_left t i h), leb-true (length id) line_limit (and_right t i h), key_short ty id)) tt)
-    (λ h. tt))
-    tt)
-    tt
+    let t = ltb line_limit (length ty) in
+    let i = ltb line_limit (length id) in
+    both_arms SmallSpelled (ltb text_limit (length ty) || ltb text_limit (length id)) tt
+    (both_arms SmallSpelled (not (utf8 ty && utf8 id)) tt
+    (by_cond SmallSpelled (t || i) _ _ (λ h. tt)
+    (λ h. both_arms SmallSpelled (ltb room (length (entity_uid pinned ty id))) tt
+    (omega (arith, ltb-false line_limit (length ty) (or_none_left t i h), ltb-false line_limit (length id) (or_none_right t i h), key_short ty id)))))
 
 abbrev pub SmallListed : Listed → Type 0
 SmallListed (listing.Written n) = (n ≤ longest) × (1 ≤ n)

@@ -24,7 +24,7 @@ use Rattle.listing.specs.declared.Listed.{Listed}
 use Rattle.listing.specs.declared.Listed.TheVariants as listing
 
 abbrev pub refused_answer : ℕ → ℕ
-refused_answer n = 2 ^ 32 + n
+refused_answer n = 4294967296 + n
 
 abbrev pub of_cut : Cut → ℕ
 of_cut (cut.Places n) = n
