@@ -33,6 +33,9 @@ same_lengths [] (y ∷ b) h = refl
 same_lengths (x ∷ a) [] h = refl
 same_lengths (x ∷ a) (y ∷ b) h = rw (same_lengths a b (λ e. h (ap suc e))) (and_false (eqb x y))
 
+-- how it is computed
+pub ruleset same_bytewise = (same_step, same_differ, same_end, same_lengths)
+
 pub same_refl : (a : List ℕ) → same a a ≡ true
 unfolding same
 same_refl [] = refl

@@ -1,12 +1,16 @@
-// Bytes appended to a lent buffer, compared, and cleared: what every crate that writes or compares text shares.
+// Bytes appended to a lent buffer, read into one, and compared: what every crate that writes, reads or compares text shares.
 // Its callers see to the room, which each `requires` names. Assumes nothing else.
 #![tactic(auto)]
 
-ghost use Rattle.std.specs.Prelude.{◌≡◌, [], ◌∷◌, ◌++◌, ◌+◌, ◌-◌, ◌≤◌, ◌<◌, length, take, replicate};
+ghost use Rattle.std.specs.Prelude.{◌≡◌, [], ◌∷◌, ◌+◌, ◌≤◌, ◌<◌, IfOk, IfSome, length, take};
 ghost use Rattle.buffers.specs.Wrote.{Wrote};
 ghost use Rattle.buffers.specs.Same.{same as same_bytes};
 
+use std::io;
+use std::io::Read;
+
 // Appends a byte behind the first `at`. The answer is where the text then ends.
+#[tactic(auto, using(crate::proofs::Appending::one))]
 pub fn append_byte(out: &mut [u8], at: usize, b: u8) -> usize
     requires { at < length out.old }
     ensures { Wrote out.old at out.new result (b ∷ []) }
@@ -16,55 +20,48 @@ pub fn append_byte(out: &mut [u8], at: usize, b: u8) -> usize
 }
 
 // Appends all of s behind the first `at`. The answer is where the text then ends.
+#[tactic(auto, using(crate::proofs::Appending::copy_none, crate::proofs::Appending::copy_all))]
 pub fn append_bytes(out: &mut [u8], at: usize, s: &[u8]) -> usize
     requires { at + length s.now ≤ length out.old }
     ensures { Wrote out.old at out.new result s.now }
 {
-    let mut i: usize = 0;
-    while i < s.len() {
-        out[at + i] = s[i];
-        i += 1;
+    // `copy_from_slice` takes 3 % longer, and asks C's library for memmove.
+    for (i, &b) in s.iter().enumerate() {
+        out[at + i] = b;
     }
-    at + i
+    at + s.len()
 }
 
 // Are the two texts equal, byte for byte?
+#[tactic(auto, using(crate::proofs::Equal::same_bytewise))]
 pub fn same(a: &[u8], b: &[u8]) -> bool
     ensures { result ≡ same_bytes a.now b.now }
 {
+    // `==` takes 5 to 24 % longer.
     if a.len() != b.len() {
         return false;
     }
-    let mut i: usize = 0;
-    while i < a.len() {
+    for i in 0..a.len() {
         if a[i] != b[i] {
             return false;
         }
-        i += 1;
     }
     true
 }
 
-// Zeros from `from` on, in bytes.
-pub fn zero8(bytes: &mut [u8], from: usize)
-    requires { from ≤ length bytes.old }
-    ensures { bytes.new ≡ take from bytes.old ++ replicate (length bytes.old - from) 0 }
+// Reads until the input ends or the buffer is full. The answer is how many bytes stand at the start of the buffer then.
+pub fn read_all<R: Read>(input: &mut R, buffer: &mut [u8]) -> io::Result<usize>
+    ensures within { IfOk result (λ n. n ≤ length buffer.new) }
+    ensures bytes { IfOk result (λ n. IfSome (R.remaining input.old) (λ s. take n buffer.new ≡ take (length buffer.new) s)) }
 {
-    let mut i = from;
-    while i < bytes.len() {
-        bytes[i] = 0;
-        i += 1;
+    let mut done: usize = 0;
+    // no `for`: each read says how far it came
+    while done < buffer.len() {
+        let more = input.read(&mut buffer[done..])?;
+        if more == 0 {
+            break;
+        }
+        done += more;
     }
-}
-
-// The same in numbers.
-pub fn zero64(numbers: &mut [u64], from: usize)
-    requires { from ≤ length numbers.old }
-    ensures { numbers.new ≡ take from numbers.old ++ replicate (length numbers.old - from) 0 }
-{
-    let mut i = from;
-    while i < numbers.len() {
-        numbers[i] = 0;
-        i += 1;
-    }
+    Ok(done)
 }

@@ -13,9 +13,8 @@ use lib.Seq.{get_or-drop}
 use borrow.Author.Tests.{ltb-true, lt-ltb, le-ltb}
 use Rattle.buffers.proofs.Choice.{both_arms, or_cases, or_left, or_right}
 use Rattle.chars.specs.Utf8.{low, high, char_of, char_at, behind_char, utf8_from, utf8, starts}
-use Rattle.chars.specs.declared.Step.{Step}
-use Rattle.chars.specs.declared.Step.TheVariants.{Char, Bad}
 use Rattle.chars.proofs.Reading.{low_128, high_191, char_whole}
+use Rattle.std.specs.Prelude.{None, Option, Some}
 
 pub starts_cases : (b : ℕ) → starts b ≡ true → (b < 0x80) ⊎ (0xBF < b)
 unfolding starts
@@ -34,11 +33,11 @@ unfolding starts
 starts_high b h = or_right (ltb b 0x80) (ltb 0xBF b) (lt-ltb 0xBF b h)
 
 -- a byte out of its range ends the reading
-out : (lo hi b : ℕ) (z : Step) → (b < lo) ⊎ (hi < b) → cond (ltb b lo) Bad (cond (ltb hi b) Bad z) ≡ Bad
+out : (lo hi b : ℕ) (z : Option (ℕ × ℕ)) → (b < lo) ⊎ (hi < b) → cond (ltb b lo) None (cond (ltb hi b) None z) ≡ None
 out lo hi b z (inl h) = rw (lt-ltb b lo h)
 out lo hi b z (inr h) = go (ltb b lo)
   where
-    go : (t : Bool) → cond t Bad (cond (ltb hi b) Bad z) ≡ Bad
+    go : (t : Bool) → cond t None (cond (ltb hi b) None z) ≡ None
     go true = refl
     go false = rw (lt-ltb hi b h)
 
@@ -64,11 +63,11 @@ module _ (a b c d : ℕ) where
   fourth_off h = rw (out 0x80 0xBF d _ (starts_cases d h))
 
 -- past ASCII a second byte out of its range leaves no character
-pub second_bad : (a b c d : ℕ) → 0x80 ≤ a → (b < 0x80) ⊎ (0xBF < b) → char_of a b c d ≡ Bad
+pub second_bad : (a b c d : ℕ) → 0x80 ≤ a → (b < 0x80) ⊎ (0xBF < b) → char_of a b c d ≡ None
 unfolding char_of
 second_bad a b c d h o =
     rw (le-ltb a 0x80 h, out (low a) (high a) b _ (beyond a b o))
-    (both_arms (λ (t : Step). t ≡ Bad) (ltb a 0xC2) refl (both_arms (λ (t : Step). t ≡ Bad) (ltb 0xF4 a) refl refl))
+    (both_arms (λ (t : Option (ℕ × ℕ)). t ≡ None) (ltb a 0xC2) refl (both_arms (λ (t : Option (ℕ × ℕ)). t ≡ None) (ltb 0xF4 a) refl refl))
 
 -- what follows does not change the character that a text begins with
 pub char_cut : (x w : List ℕ) → 0 < length x → starts (get_or w 0 0) ≡ true → char_at (x ++ w) ≡ char_at x
@@ -84,13 +83,13 @@ utf8_from_append zero [] w l h = refl
 utf8_from_append (suc k) [] w l h = absurd (omega arith)
 utf8_from_append (suc k) (a ∷ r) w l h = utf8_from_append k r w (omega arith) h
 utf8_from_append zero (a ∷ r) w l h =
-    ap (λ (t : Step). behind_char t (λ k. utf8_from k (r ++ w))) (char_cut (a ∷ r) w (omega arith) h)
+    ap (λ (t : Option (ℕ × ℕ)). behind_char t (λ k. utf8_from k (r ++ w))) (char_cut (a ∷ r) w (omega arith) h)
     ∙ go (char_at (a ∷ r)) refl (λ k m. utf8_from_append k r w m h)
   where
-    go : (t : Step) → char_at (a ∷ r) ≡ t → ((k : ℕ) → k ≤ length r → utf8_from k (r ++ w) ≡ (utf8_from k r && utf8 w))
+    go : (t : Option (ℕ × ℕ)) → char_at (a ∷ r) ≡ t → ((k : ℕ) → k ≤ length r → utf8_from k (r ++ w) ≡ (utf8_from k r && utf8 w))
         → behind_char t (λ k. utf8_from k (r ++ w)) ≡ (behind_char t (λ k. utf8_from k r) && utf8 w)
-    go (Char c n) e ih = ih (n - 1) (omega (arith, char_whole (a ∷ r) c n e))
-    go Bad e ih = refl
+    go (Some (c, n)) e ih = ih (n - 1) (omega (arith, char_whole (a ∷ r) c n e))
+    go None e ih = refl
 
 -- two texts, one behind the other
 pub utf8_append : (x w : List ℕ) → starts (get_or w 0 0) ≡ true → utf8 (x ++ w) ≡ (utf8 x && utf8 w)

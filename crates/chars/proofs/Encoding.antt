@@ -13,9 +13,8 @@ use lib.ListN.{length, get_or, take}
 use borrow.Author.Tests.{ltb-true, ltb-false, lt-ltb, le-ltb, eq-eqb, ne_eqb, eqb-true}
 use Rattle.buffers.proofs.Choice.{by_cond, or_left, or_right, or_cases, and_both, and_left, and_right}
 use Rattle.chars.specs.Utf8.{scalar, low, high, char_of, char_at, encode}
-use Rattle.chars.specs.declared.Step.{Step}
-use Rattle.chars.specs.declared.Step.TheVariants.{Char, Bad}
 use Rattle.chars.proofs.Reading.{low_128, high_191, char_whole}
+use Rattle.std.specs.Prelude.{None, Option, Some}
 
 -- what the bounds on the second byte come to
 low_e0 : (a : ℕ) → a ≡ 0xE0 → low a ≡ 0xA0
@@ -70,9 +69,9 @@ record Is (a b c d code n : ℕ) : Type 0 where
   small : code < 0x110000
   bytes : encode code ≡ take n (a ∷ b ∷ c ∷ d ∷ [])
 
-abbrev IsStep : ℕ → ℕ → ℕ → ℕ → Step → Type 0
-IsStep a b c d (Char code n) = Is a b c d code n
-IsStep a b c d Bad = Unit {0}
+abbrev IsStep : ℕ → ℕ → ℕ → ℕ → Option (ℕ × ℕ) → Type 0
+IsStep a b c d (Some (code, n)) = Is a b c d code n
+IsStep a b c d None = Unit {0}
 
 one : (a b c d : ℕ) → a < 0x80 → Is a b c d a 1
 unfolding encode
@@ -151,7 +150,7 @@ is a b c d =
     by_cond P (ltb 0xBF d) _ _ (λ h11. tt) (λ h11.
     four a b c d (ltb-false _ _ h9) (ltb-false _ _ h3) (ltb-false _ _ h4) (ltb-false _ _ h5) (ltb-false _ _ h7) (ltb-false _ _ h8) (ltb-false _ _ h10) (ltb-false _ _ h11))))))))))))
 
-decoded : (a b c d code n : ℕ) → char_of a b c d ≡ Char code n → Is a b c d code n
+decoded : (a b c d code n : ℕ) → char_of a b c d ≡ Some (code, n) → Is a b c d code n
 decoded a b c d code n e = rw e at (is a b c d)
 
 -- the other way: each form of a scalar value
@@ -171,11 +170,11 @@ le_high a b f g h = by (eqb a 0xED) _ _ (λ e. f (eqb-true a 0xED e)) (by (eqb a
     by true x y p q = p refl
     by false x y p q = q
 
-step_1 : (a b c d : ℕ) → a < 0x80 → char_of a b c d ≡ Char a 1
+step_1 : (a b c d : ℕ) → a < 0x80 → char_of a b c d ≡ Some (a, 1)
 unfolding char_of
 step_1 a b c d h = rw (lt-ltb a 0x80 h)
 
-pub step_2 : (a b c d : ℕ) → 0xC2 ≤ a → a < 0xE0 → low a ≤ b → b ≤ high a → char_of a b c d ≡ Char ((a - 0xC0) * 64 + (b - 0x80)) 2
+pub step_2 : (a b c d : ℕ) → 0xC2 ≤ a → a < 0xE0 → low a ≤ b → b ≤ high a → char_of a b c d ≡ Some (((a - 0xC0) * 64 + (b - 0x80)), 2)
 unfolding char_of
 step_2 a b c d h1 h2 h3 h4 =
     let g1 : 0x80 ≤ a = omega arith in
@@ -183,7 +182,7 @@ step_2 a b c d h1 h2 h3 h4 =
     rw (le-ltb a 0x80 g1, le-ltb a 0xC2 h1, le-ltb 0xF4 a g2, le-ltb b (low a) h3, le-ltb (high a) b h4, lt-ltb a 0xE0 h2)
 
 step_3 : (a b c d : ℕ) → 0xE0 ≤ a → a < 0xF0 → low a ≤ b → b ≤ high a → 0x80 ≤ c → c ≤ 0xBF
-    → char_of a b c d ≡ Char ((a - 0xE0) * 4096 + (b - 0x80) * 64 + (c - 0x80)) 3
+    → char_of a b c d ≡ Some (((a - 0xE0) * 4096 + (b - 0x80) * 64 + (c - 0x80)), 3)
 unfolding char_of
 step_3 a b c d h1 h2 h3 h4 h5 h6 =
     let g1 : 0x80 ≤ a = omega arith in
@@ -192,7 +191,7 @@ step_3 a b c d h1 h2 h3 h4 h5 h6 =
     rw (le-ltb a 0x80 g1, le-ltb a 0xC2 g2, le-ltb 0xF4 a g3, le-ltb b (low a) h3, le-ltb (high a) b h4, le-ltb a 0xE0 h1, le-ltb c 0x80 h5, le-ltb 0xBF c h6, lt-ltb a 0xF0 h2)
 
 step_4 : (a b c d : ℕ) → 0xF0 ≤ a → a ≤ 0xF4 → low a ≤ b → b ≤ high a → 0x80 ≤ c → c ≤ 0xBF → 0x80 ≤ d → d ≤ 0xBF
-    → char_of a b c d ≡ Char ((a - 0xF0) * 262144 + (b - 0x80) * 4096 + (c - 0x80) * 64 + (d - 0x80)) 4
+    → char_of a b c d ≡ Some (((a - 0xF0) * 262144 + (b - 0x80) * 4096 + (c - 0x80) * 64 + (d - 0x80)), 4)
 unfolding char_of
 step_4 a b c d h1 h2 h3 h4 h5 h6 h7 h8 =
     let g1 : 0x80 ≤ a = omega arith in
@@ -200,24 +199,24 @@ step_4 a b c d h1 h2 h3 h4 h5 h6 h7 h8 =
     let g3 : 0xE0 ≤ a = omega arith in
     rw (le-ltb a 0x80 g1, le-ltb a 0xC2 g2, le-ltb 0xF4 a h2, le-ltb b (low a) h3, le-ltb (high a) b h4, le-ltb a 0xE0 g3, le-ltb c 0x80 h5, le-ltb 0xBF c h6, le-ltb a 0xF0 h1, le-ltb d 0x80 h7, le-ltb 0xBF d h8)
 
-decode_2 : (c x y : ℕ) → 0x80 ≤ c → c < 0x800 → char_of (0xC0 + c / 64) (0x80 + c % 64) x y ≡ Char c 2
+decode_2 : (c x y : ℕ) → 0x80 ≤ c → c < 0x800 → char_of (0xC0 + c / 64) (0x80 + c % 64) x y ≡ Some (c, 2)
 decode_2 c x y h1 h2 =
     step_2 (0xC0 + c / 64) (0x80 + c % 64) x y (omega arith) (omega arith)
     (low_le (0xC0 + c / 64) (0x80 + c % 64) (λ e. omega arith) (λ e. omega arith) (omega arith))
     (le_high (0xC0 + c / 64) (0x80 + c % 64) (λ e. omega arith) (λ e. omega arith) (omega arith))
-    ∙ ap (λ (v : ℕ). Char v 2) (same c)
+    ∙ ap (λ (v : ℕ). Some (v, 2)) (same c)
   where
     same : (c : ℕ) → (0xC0 + c / 64 - 0xC0) * 64 + (0x80 + c % 64 - 0x80) ≡ c
     same c = omega arith
 
 decode_3 : (c x : ℕ) → 0x800 ≤ c → c < 0x10000 → (c < 0xD800) ⊎ (0xDFFF < c)
-    → char_of (0xE0 + c / 4096) (0x80 + c / 64 % 64) (0x80 + c % 64) x ≡ Char c 3
+    → char_of (0xE0 + c / 4096) (0x80 + c / 64 % 64) (0x80 + c % 64) x ≡ Some (c, 3)
 decode_3 c x h1 h2 s =
     step_3 (0xE0 + c / 4096) (0x80 + c / 64 % 64) (0x80 + c % 64) x (omega arith) (omega arith)
     (low_le (0xE0 + c / 4096) (0x80 + c / 64 % 64) (λ e. omega arith) (λ e. omega arith) (omega arith))
     (le_high (0xE0 + c / 4096) (0x80 + c / 64 % 64) (no_surrogate s) (λ e. omega arith) (omega arith))
     (omega arith) (omega arith)
-    ∙ ap (λ (v : ℕ). Char v 3) (same c)
+    ∙ ap (λ (v : ℕ). Some (v, 3)) (same c)
   where
     same : (c : ℕ) → (0xE0 + c / 4096 - 0xE0) * 4096 + (0x80 + c / 64 % 64 - 0x80) * 64 + (0x80 + c % 64 - 0x80) ≡ c
     same c = omega arith
@@ -227,13 +226,13 @@ decode_3 c x h1 h2 s =
     no_surrogate (inr l) e = omega arith
 
 decode_4 : (c : ℕ) → 0x10000 ≤ c → c < 0x110000
-    → char_of (0xF0 + c / 262144) (0x80 + c / 4096 % 64) (0x80 + c / 64 % 64) (0x80 + c % 64) ≡ Char c 4
+    → char_of (0xF0 + c / 262144) (0x80 + c / 4096 % 64) (0x80 + c / 64 % 64) (0x80 + c % 64) ≡ Some (c, 4)
 decode_4 c h1 h2 =
     step_4 (0xF0 + c / 262144) (0x80 + c / 4096 % 64) (0x80 + c / 64 % 64) (0x80 + c % 64) (omega arith) (omega arith)
     (low_le (0xF0 + c / 262144) (0x80 + c / 4096 % 64) (λ e. omega arith) (λ e. omega arith) (omega arith))
     (le_high (0xF0 + c / 262144) (0x80 + c / 4096 % 64) (λ e. omega arith) (λ e. omega arith) (omega arith))
     (omega arith) (omega arith) (omega arith) (omega arith)
-    ∙ ap (λ (v : ℕ). Char v 4) (same c)
+    ∙ ap (λ (v : ℕ). Some (v, 4)) (same c)
   where
     same : (c : ℕ) → (0xF0 + c / 262144 - 0xF0) * 262144 + (0x80 + c / 4096 % 64 - 0x80) * 4096 + (0x80 + c / 64 % 64 - 0x80) * 64 + (0x80 + c % 64 - 0x80) ≡ c
     same c = plain (c / 262144) (c / 4096 % 64) (c / 64 % 64) (c % 64) ∙ sum c
@@ -286,21 +285,21 @@ firsts (suc (suc (suc (suc zero)))) a (x ∷ y ∷ z ∷ r) h l = refl
 firsts (suc (suc (suc (suc (suc n))))) a r h l = absurd (omega arith)
 
 -- decoding then encoding gives the bytes back
-pub decode_encode : (s : List ℕ) (c n : ℕ) → char_at s ≡ Char c n → encode c ≡ take n s
+pub decode_encode : (s : List ℕ) (c n : ℕ) → char_at s ≡ Some (c, n) → encode c ≡ take n s
 decode_encode [] c n e = let z : ◌≡◌ {A = ℕ} 0 1 = cc in absurd (omega arith)
 decode_encode (a ∷ r) c n e =
     (decoded a (get_or r 0 0) (get_or r 1 0) (get_or r 2 0) c n e).bytes
     ∙ firsts n a r (Rattle.chars.proofs.Reading.read _ _ _ _ c n e).few (char_whole (a ∷ r) c n e)
 
 -- what is read is a scalar value
-pub decode_scalar : (s : List ℕ) (c n : ℕ) → char_at s ≡ Char c n → scalar c ≡ true
+pub decode_scalar : (s : List ℕ) (c n : ℕ) → char_at s ≡ Some (c, n) → scalar c ≡ true
 decode_scalar [] c n e = let z : ◌≡◌ {A = ℕ} 0 1 = cc in absurd (omega arith)
 decode_scalar (a ∷ r) c n e =
     let i = decoded a (get_or r 0 0) (get_or r 1 0) (get_or r 2 0) c n e in
     scalar_true c i.small i.split
 
 -- encoding then decoding gives the character back
-pub encode_decode : (c : ℕ) (r : List ℕ) → scalar c ≡ true → char_at (encode c ++ r) ≡ Char c (length (encode c))
+pub encode_decode : (c : ℕ) (r : List ℕ) → scalar c ≡ true → char_at (encode c ++ r) ≡ Some (c, (length (encode c)))
 unfolding encode
 encode_decode c r w =
     let s = is_scalar c w in
@@ -310,4 +309,4 @@ encode_decode c r w =
     decode_4 c (ltb-false c 0x10000 v) s.small)))
   where
     Q : List ℕ → Type 0
-    Q l = char_at (l ++ r) ≡ Char c (length l)
+    Q l = char_at (l ++ r) ≡ Some (c, (length l))

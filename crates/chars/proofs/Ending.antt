@@ -15,11 +15,10 @@ use Rattle.buffers.proofs.Choice.{by_cond, both_arms, decide, and_left, and_righ
 use Rattle.chars.specs.Utf8.{char_at, encode}
 use Rattle.chars.specs.White.{within, white, wide_white, width_of, white_at}
 use Rattle.chars.specs.Post.{EndsAt, EndsIn}
-use Rattle.chars.specs.declared.Step.{Step}
-use Rattle.chars.specs.declared.Step.TheVariants.{Char, Bad}
 use Rattle.chars.proofs.Reading.{read, char_whole, ascii_char}
 use Rattle.chars.proofs.Encoding.{decode_encode}
 use Rattle.chars.proofs.Trimming.{white_inside}
+use Rattle.std.specs.Prelude.{None, Option, Some}
 
 -- ---- where no White_Space character is
 
@@ -71,16 +70,16 @@ pub white_few : (s : List ℕ) → white_at s ≤ 3
 unfolding white_at
 white_few s = go (char_at s) refl
   where
-    wide : (c n : ℕ) → char_at s ≡ Char c n → white c ≡ true → n ≤ 3
+    wide : (c n : ℕ) → char_at s ≡ Some (c, n) → white c ≡ true → n ≤ 3
     wide c n e w = by (dec_lt c 0x10000)
       where
         by : Dec (c < 0x10000) → n ≤ 3
         by (yes h) = omega (arith, encode_3 c h, ap length (decode_encode s c n e), length-take-le n s (char_whole s c n e))
         by (no h) = let f : white c ≡ false = no_white c (omega arith) in let z : ◌≡◌ {A = ℕ} 0 1 = cc in absurd (omega arith)
 
-    go : (t : Step) → char_at s ≡ t → width_of t ≤ 3
-    go (Char c n) e = by_cond (λ (w : ℕ). w ≤ 3) (white c) n 0 (λ w. wide c n e w) (λ _. omega arith)
-    go Bad e = omega arith
+    go : (t : Option (ℕ × ℕ)) → char_at s ≡ t → width_of t ≤ 3
+    go (Some (c, n)) e = by_cond (λ (w : ℕ). w ≤ 3) (white c) n 0 (λ w. wide c n e w) (λ _. omega arith)
+    go None e = omega arith
 
 -- ---- the last byte
 
@@ -114,7 +113,7 @@ unfolding white_at
 wide_last [] m e w h = absurd (omega arith)
 wide_last (a ∷ r) m e w h = go (char_at (a ∷ r)) refl w
   where
-    by : (c n : ℕ) → char_at (a ∷ r) ≡ Char c n → (k : ℕ) → k ≤ n → 2 ≤ k → k ≤ 4 → 0x80 ≤ get_or (a ∷ r) (k - 1) 0
+    by : (c n : ℕ) → char_at (a ∷ r) ≡ Some (c, n) → (k : ℕ) → k ≤ n → 2 ≤ k → k ≤ 4 → 0x80 ≤ get_or (a ∷ r) (k - 1) 0
     by c n f zero l g q = absurd (omega arith)
     by c n f (suc zero) l g q = absurd (omega arith)
     by c n f (suc (suc zero)) l g q = ((read _ _ _ _ c n f).second l).0
@@ -122,12 +121,12 @@ wide_last (a ∷ r) m e w h = go (char_at (a ∷ r)) refl w
     by c n f (suc (suc (suc (suc zero)))) l g q = ((read _ _ _ _ c n f).fourth l).0
     by c n f (suc (suc (suc (suc (suc k))))) l g q = absurd (omega arith)
 
-    go : (t : Step) → char_at (a ∷ r) ≡ t → width_of t ≡ m → 0x80 ≤ get_or (a ∷ r) (m - 1) 0
-    go (Char c n) f w = by c n f m (omega (arith, le)) h (omega (arith, le, (read _ _ _ _ c n f).few))
+    go : (t : Option (ℕ × ℕ)) → char_at (a ∷ r) ≡ t → width_of t ≡ m → 0x80 ≤ get_or (a ∷ r) (m - 1) 0
+    go (Some (c, n)) f w = by c n f m (omega (arith, le)) h (omega (arith, le, (read _ _ _ _ c n f).few))
       where
         le : m ≤ n
         le = rw (← w) (by_cond (λ (x : ℕ). x ≤ n) (white c) n 0 (λ _. omega arith) (λ _. omega arith))
-    go Bad f w = absurd (omega arith)
+    go None f w = absurd (omega arith)
 
 module _ (s : List ℕ) (nonempty : 0 < length s) where
   pub ends_ascii : get_or s (length s - 1) 0 < 0x80 → white (get_or s (length s - 1) 0) ≡ false → EndsIn s 0

@@ -8,8 +8,8 @@ use Rattle.buffers.specs.Ascii.{ascii}
 use Rattle.chars.specs.Utf8.{scalar, low, high, char_of, char_at, utf8_from, utf8, encode}
 use Rattle.chars.specs.Scalars.{Encoded, end, char}
 use Rattle.chars.specs.White.{white, wide_white, white_at, trim_from, trim_end, trim, blank}
-use Rattle.chars.specs.declared.Step.TheVariants.{Char, Bad}
 use Rattle.chars.proofs.Utf8Meaning.{utf8_iff}
+use Rattle.std.specs.Prelude.{None, Some}
 
 -- A, U+2262, U+0391, a full stop
 not_identical : utf8 (code "A" ∷ 0xE2 ∷ 0x89 ∷ 0xA2 ∷ 0xCE ∷ 0x91 ∷ code "." ∷ []) ≡ true
@@ -21,7 +21,7 @@ stump_of_tree : utf8 (0xEF ∷ 0xBB ∷ 0xBF ∷ 0xF0 ∷ 0xA3 ∷ 0x8E ∷ 0xB4
 unfolding utf8_from char_of low high
 stump_of_tree = refl
 
-tree : char_at (0xF0 ∷ 0xA3 ∷ 0x8E ∷ 0xB4 ∷ []) ≡ Char 0x233B4 4
+tree : char_at (0xF0 ∷ 0xA3 ∷ 0x8E ∷ 0xB4 ∷ []) ≡ Some (0x233B4, 4)
 unfolding char_of low high
 tree = refl
 
@@ -39,15 +39,15 @@ unfolding utf8_from char_of low high
 no_scalar e = false≢true ((utf8_iff (0xC0 ∷ 0x80 ∷ [])).1 e)
 
 -- an overlong form, a surrogate, a code point past U+10FFFF, a character cut short
-overlong : char_at (0xC0 ∷ 0x80 ∷ []) ≡ Bad
+overlong : char_at (0xC0 ∷ 0x80 ∷ []) ≡ None
 unfolding char_of
 overlong = refl
 
-surrogate : char_at (0xED ∷ 0xA0 ∷ 0x80 ∷ []) ≡ Bad
+surrogate : char_at (0xED ∷ 0xA0 ∷ 0x80 ∷ []) ≡ None
 unfolding char_of low high
 surrogate = refl
 
-too_large : char_at (0xF4 ∷ 0x90 ∷ 0x80 ∷ 0x80 ∷ []) ≡ Bad
+too_large : char_at (0xF4 ∷ 0x90 ∷ 0x80 ∷ 0x80 ∷ []) ≡ None
 unfolding char_of low high
 too_large = refl
 

@@ -16,8 +16,7 @@ use Rattle.buffers.proofs.Choice.{by_cond}
 use Rattle.buffers.proofs.Skipping.{skipped}
 use Rattle.chars.specs.Utf8.{low, high, char_of, char_at, behind_char, utf8_from, utf8}
 use Rattle.chars.specs.Post.{Advances}
-use Rattle.chars.specs.declared.Step.{Step}
-use Rattle.chars.specs.declared.Step.TheVariants.{Char, Bad}
+use Rattle.std.specs.Prelude.{None, Option, Some}
 
 -- a byte that continues a character
 abbrev pub Continues : ℕ → Type 0
@@ -32,9 +31,9 @@ pub record CharRead (a b c d n : ℕ) : Type 0 where
   pub third : 3 ≤ n → Continues c
   pub fourth : 4 ≤ n → Continues d
 
-abbrev CharReads : ℕ → ℕ → ℕ → ℕ → Step → Type 0
-CharReads a b c d (Char code n) = CharRead a b c d n
-CharReads a b c d Bad = Unit {0}
+abbrev CharReads : ℕ → ℕ → ℕ → ℕ → Option (ℕ × ℕ) → Type 0
+CharReads a b c d (Some (code, n)) = CharRead a b c d n
+CharReads a b c d None = Unit {0}
 
 pub low_128 : (a : ℕ) → 128 ≤ low a
 unfolding low
@@ -90,7 +89,7 @@ reads a b c d =
     more : (n : ℕ) → 1 ≤ n → n ≤ 4 → ltb a 0xC2 ≡ false → Continues b → (3 ≤ n → Continues c) → (4 ≤ n → Continues d) → CharRead a b c d n
     more n h l f s t u = record { nonempty = h; few = l; first = inr (ltb-false _ _ f); second = λ _. s; third = t; fourth = u }
 
-pub read : (a b c d code n : ℕ) → char_of a b c d ≡ Char code n → CharRead a b c d n
+pub read : (a b c d code n : ℕ) → char_of a b c d ≡ Some (code, n) → CharRead a b c d n
 read a b c d code n e = rw e at (reads a b c d)
 
 -- a byte that is not 0 stands in the list
@@ -105,7 +104,7 @@ byte_inside s i h = go (dec_lt i (length s))
     go (no l) = absurd (out (get_or-eq_default s 0 (omega arith)))
 
 -- the whole character stands in the text
-pub char_whole : (s : List ℕ) (code n : ℕ) → char_at s ≡ Char code n → n ≤ length s
+pub char_whole : (s : List ℕ) (code n : ℕ) → char_at s ≡ Some (code, n) → n ≤ length s
 char_whole [] code n e = let z : ◌≡◌ {A = ℕ} 0 1 = cc in absurd (omega arith)
 char_whole (a ∷ r) code n e = go n (read _ _ _ _ code n e)
   where
@@ -118,7 +117,7 @@ char_whole (a ∷ r) code n e = go n (read _ _ _ _ code n e)
     go (suc (suc (suc (suc (suc n))))) k = let h = k.few in absurd (omega arith)
 
 -- a character takes one to four bytes
-pub nonempty : (s : List ℕ) (code n : ℕ) → char_at s ≡ Char code n → 1 ≤ n
+pub nonempty : (s : List ℕ) (code n : ℕ) → char_at s ≡ Some (code, n) → 1 ≤ n
 nonempty [] code n e = let z : ◌≡◌ {A = ℕ} 0 1 = cc in absurd (omega arith)
 nonempty (a ∷ r) code n e = (read _ _ _ _ code n e).nonempty
 
@@ -139,11 +138,11 @@ unfolding utf8_from
 utf8_skip k s = skipped utf8_from (λ k. refl) (λ k a r. refl) k s
 
 -- behind a character the rest decides
-pub char_onward : (s : List ℕ) (code n : ℕ) → char_at s ≡ Char code n → utf8 s ≡ utf8 (drop n s)
+pub char_onward : (s : List ℕ) (code n : ℕ) → char_at s ≡ Some (code, n) → utf8 s ≡ utf8 (drop n s)
 unfolding utf8_from
 char_onward [] code n e = let z : ◌≡◌ {A = ℕ} 0 1 = cc in absurd (omega arith)
 char_onward (a ∷ r) code n e =
-    ap (λ (t : Step). behind_char t (λ k. utf8_from k r)) e
+    ap (λ (t : Option (ℕ × ℕ)). behind_char t (λ k. utf8_from k r)) e
     ∙ utf8_skip (n - 1) r
     ∙ go n (read _ _ _ _ code n e).nonempty
   where
@@ -152,12 +151,12 @@ char_onward (a ∷ r) code n e =
     go (suc m) h = rw (native.Mathlib.Numerals.sub-one (suc m))
 
 -- where no character stands the text is not UTF-8
-pub char_stuck : (s : List ℕ) → 0 < length s → char_at s ≡ Bad → utf8 s ≡ false
+pub char_stuck : (s : List ℕ) → 0 < length s → char_at s ≡ None → utf8 s ≡ false
 unfolding utf8_from
 char_stuck [] h e = absurd (omega arith)
-char_stuck (a ∷ r) h e = ap (λ (t : Step). behind_char t (λ k. utf8_from k r)) e
+char_stuck (a ∷ r) h e = ap (λ (t : Option (ℕ × ℕ)). behind_char t (λ k. utf8_from k r)) e
 
-pub ascii_char : (a : ℕ) (r : List ℕ) → a < 0x80 → char_at (a ∷ r) ≡ Char a 1
+pub ascii_char : (a : ℕ) (r : List ℕ) → a < 0x80 → char_at (a ∷ r) ≡ Some (a, 1)
 unfolding char_of
 ascii_char a r h = rw (lt-ltb a 0x80 h)
 
@@ -172,7 +171,7 @@ ascii_onward (suc n) (a ∷ r) h f =
 -- ---- a step of the walk
 
 module _ (s : List ℕ) (at : ℕ) (h : at < length s) where
-  pub advance_char : (c n : ℕ) → char_at (drop at s) ≡ Char c n → Advances s at n
+  pub advance_char : (c n : ℕ) → char_at (drop at s) ≡ Some (c, n) → Advances s at n
   advance_char c n e = record {
     inside = omega (arith, char_whole (drop at s) c n e, length-drop at s);
     onward = char_onward (drop at s) c n e ∙ ap utf8 (drop-drop n at s);
@@ -189,5 +188,5 @@ module _ (s : List ℕ) (at : ℕ) (h : at < length s) where
   pub advance_one : get_or s at 0 < 0x80 → Advances s at 1
   advance_one l = advance_ascii 1 (omega arith) (omega arith) (λ i m. let e : at + i ≡ at = omega arith in omega (arith, ap (λ (k : ℕ). get_or s k 0) e))
 
-  pub advance_stuck : char_at (drop at s) ≡ Bad → Advances s at 0
+  pub advance_stuck : char_at (drop at s) ≡ None → Advances s at 0
   advance_stuck e = record { inside = omega arith; onward = ap (λ (k : ℕ). utf8 (drop k s)) (sym (add-zero at)); stuck = λ _. e }

@@ -1,6 +1,7 @@
 -- Runs of ASCII bytes: how they grow, join, and are passed by the UTF-8 check; and characters of two bytes.
 -- Assumes nothing.
-use mathlib.Core.Path.{◌≡◌, ap, ◌∙◌}
+use mathlib.Core.Path.{◌≡◌, sym, ap, ◌∙◌}
+use mathlib.Core.Bool.{Bool, true}
 use mathlib.Core.Logic.{◌⊎◌, inl}
 use mathlib.Core.List.{List}
 use Prim.Native.Nat.{ℕ, ◌+◌, ◌-◌, ◌≤◌, ◌<◌}
@@ -8,15 +9,45 @@ use native.Mathlib.Decide.{dec_lt}
 use native.Mathlib.Omega.{arith}
 use lib.ListN.{length, get_or, take, drop, length-drop, get_or-eq_default}
 use lib.Seq.{get_or-take, get_or-drop, length-take-le}
-use borrow.Author.Tests.{lt-ltb, le-ltb}
+use lib.Dec.{ltb}
+use borrow.Author.Tests.{ltb-true, lt-ltb, le-ltb}
 use Rattle.chars.specs.Utf8.{char_of}
-use Rattle.chars.specs.Post.{Plain, Advances}
-use Rattle.chars.specs.declared.Step.TheVariants.{Bad}
+use Rattle.chars.specs.Post.{AllBytes, Plain, Advances}
 use Rattle.chars.proofs.Reading.{char_here, advance_char, advance_ascii, advance_stuck}
 use Rattle.chars.proofs.Boundary.{second_bad}
 use Rattle.chars.proofs.Encoding.{low_le, le_high, step_2}
+use Rattle.std.specs.Prelude.{None}
+
+-- ---- bytes that all pass a test
+
+module _ (p : ℕ → Bool) (s : List ℕ) where
+  pub all_join : (a b c : ℕ) → AllBytes p s a b → AllBytes p s b c → AllBytes p s a c
+  all_join a b c f g = λ i k l. go i k l (dec_lt i b)
+    where
+      go : (i : ℕ) → a ≤ i → i < c → Dec (i < b) → p (get_or s i 0) ≡ true
+      go i k l (yes m) = f i k m
+      go i k l (no m) = g i (omega arith) l
+
+  -- the first m of the n that stand at a place
+  pub all_part : (at n m : ℕ) → m ≤ n → AllBytes p (take n (drop at s)) 0 m → AllBytes p s at (at + m)
+  all_part at n m h f = λ i g l.
+      let j : ℕ = i - at in
+      let e : at + j ≡ i = omega arith in
+      ap p (sym (get_or-take n (drop at s) j 0 (omega arith) ∙ get_or-drop at s j 0 ∙ ap (λ (k : ℕ). get_or s k 0) e)) ∙ f j (omega arith) (omega arith)
+
+  -- all that stand from a place to another
+  pub all_block : (at end : ℕ) → at ≤ end → end ≤ length s → AllBytes p (take (end - at) (drop at s)) 0 (length (take (end - at) (drop at s))) → AllBytes p s at end
+  all_block at end h l f =
+      let e : at + (end - at) ≡ end = omega arith in
+      let n : end - at ≤ length (drop at s) = omega (arith, length-drop at s) in
+      rw e at (all_part at (end - at) (end - at) (omega arith) (λ i g m. f i g (omega (arith, length-take-le (end - at) (drop at s) n))))
+
+-- ---- ASCII
 
 module _ (s : List ℕ) where
+  pub plain_all : (at end : ℕ) → at ≤ end → AllBytes (λ b. ltb b 128) s at end → Plain s at end
+  plain_all at end h f = record { forward = h; ascii = λ i g l. ltb-true (get_or s i 0) 128 (f i g l) }
+
   pub plain_none : (at : ℕ) → Plain s at at
   plain_none at = record { forward = omega arith; ascii = λ i h l. absurd (omega arith) }
 
@@ -57,7 +88,7 @@ module _ (s : List ℕ) where
 -- ---- characters of two bytes
 
 module _ (s : List ℕ) (at : ℕ) (h : at < length s) (past : 128 ≤ get_or s at 0) where
-  stuck : char_of (get_or s at 0) (get_or s (at + 1) 0) (get_or s (at + 2) 0) (get_or s (at + 3) 0) ≡ Bad → Advances s at 0
+  stuck : char_of (get_or s at 0) (get_or s (at + 1) 0) (get_or s (at + 2) 0) (get_or s (at + 3) 0) ≡ None → Advances s at 0
   stuck e = advance_stuck s at h (char_here s at h ∙ e)
 
   pub two_first : get_or s at 0 < 0xC2 → Advances s at 0

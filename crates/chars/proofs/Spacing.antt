@@ -8,10 +8,12 @@ use Prim.Native.Char.{code}
 use native.Mathlib.Decide.{dec_lt}
 use native.Mathlib.Numerals.{add-one}
 use native.Mathlib.Omega.{arith}
+use lib.Dec.{eqb}
+use borrow.Author.Tests.{eqb-true}
 use lib.ListN.{length, get_or, take, drop, length-drop}
 use lib.Seq.{drop-drop, get_or-drop, get_or-take, length-take-le}
 use Rattle.chars.specs.White.{white, wide_white, white_at, trim_from, trim_start, empty, trim_end, trim, blank}
-use Rattle.chars.specs.Post.{EndsIn, Spaces}
+use Rattle.chars.specs.Post.{AllBytes, EndsIn, Spaces}
 use Rattle.chars.proofs.Trimming.{trim_start_stays, trim_start_white, start_clean}
 use Rattle.chars.proofs.Ending.{not_white, white_first, white_ascii, last_one, ends_ascii, ends_wide}
 
@@ -65,6 +67,9 @@ trim_blank s = go (trim_start s) (start_clean s)
 -- ---- spaces at the start
 
 module _ (s : List ℕ) where
+  pub spaces_all : (n : ℕ) → AllBytes (λ b. eqb b (code " ")) s 0 n → Spaces s n
+  spaces_all n f = λ i l. eqb-true (get_or s i 0) (code " ") (f i (omega arith) l)
+
   pub spaces_none : Spaces s 0
   spaces_none = λ i l. absurd (omega arith)
 

@@ -15,10 +15,9 @@ use Rattle.buffers.proofs.Skipping.{skipped}
 use Rattle.chars.specs.Utf8.{char_at, starts}
 use Rattle.chars.specs.White.{white, width_of, white_at, or_past, trim_from, trim_start, empty, trim_end, trim}
 use Rattle.chars.specs.Post.{EndsAt}
-use Rattle.chars.specs.declared.Step.{Step}
-use Rattle.chars.specs.declared.Step.TheVariants.{Char, Bad}
 use Rattle.chars.proofs.Reading.{read, char_whole}
 use Rattle.chars.proofs.Boundary.{starts_low, starts_high, char_cut}
+use Rattle.std.specs.Prelude.{None, Option, Some}
 
 -- ---- an empty text by its length
 
@@ -32,9 +31,9 @@ empty_some (a ∷ r) h = refl
 
 -- ---- the White_Space character at the start
 
-width_le : (t : Step) (m : ℕ) → ((c n : ℕ) → t ≡ Char c n → n ≤ m) → width_of t ≤ m
-width_le (Char c n) m f = by_cond (λ (w : ℕ). w ≤ m) (white c) n 0 (λ _. f c n refl) (λ _. omega arith)
-width_le Bad m f = omega arith
+width_le : (t : Option (ℕ × ℕ)) (m : ℕ) → ((c n : ℕ) → t ≡ Some (c, n) → n ≤ m) → width_of t ≤ m
+width_le (Some (c, n)) m f = by_cond (λ (w : ℕ). w ≤ m) (white c) n 0 (λ _. f c n refl) (λ _. omega arith)
+width_le None m f = omega arith
 
 -- it stands in the text
 pub white_inside : (s : List ℕ) → white_at s ≤ length s
@@ -45,7 +44,7 @@ pub white_cut : (x w : List ℕ) → 0 < length x → starts (get_or w 0 0) ≡ 
 unfolding white_at
 white_cut x w l h = ap width_of (char_cut x w l h)
 
-starts_char : (a : ℕ) (r : List ℕ) (c n : ℕ) → char_at (a ∷ r) ≡ Char c n → starts a ≡ true
+starts_char : (a : ℕ) (r : List ℕ) (c n : ℕ) → char_at (a ∷ r) ≡ Some (c, n) → starts a ≡ true
 starts_char a r c n e = go (read _ _ _ _ c n e).first
   where
     go : (a < 0x80) ⊎ (0xC2 ≤ a) → starts a ≡ true
@@ -58,9 +57,9 @@ unfolding white_at
 white_starts [] h = absurd (omega arith)
 white_starts (a ∷ r) h = go (char_at (a ∷ r)) refl h
   where
-    go : (t : Step) → char_at (a ∷ r) ≡ t → 0 < width_of t → starts a ≡ true
-    go (Char c n) e h = starts_char a r c n e
-    go Bad e h = absurd (omega arith)
+    go : (t : Option (ℕ × ℕ)) → char_at (a ∷ r) ≡ t → 0 < width_of t → starts a ≡ true
+    go (Some (c, n)) e h = starts_char a r c n e
+    go None e h = absurd (omega arith)
 
 -- ---- trimming at the start
 

@@ -10,10 +10,9 @@ use lib.ListN.{length, drop, take-append-drop}
 use lib.Seq.{drop-append_seam}
 use Rattle.chars.specs.Utf8.{encode, char_at, behind_char, utf8_from, utf8}
 use Rattle.chars.specs.Scalars.{Encoded, end, char}
-use Rattle.chars.specs.declared.Step.{Step}
-use Rattle.chars.specs.declared.Step.TheVariants.{Char, Bad}
 use Rattle.chars.proofs.Reading.{nonempty, char_onward}
 use Rattle.chars.proofs.Encoding.{decode_encode, decode_scalar, encode_decode}
+use Rattle.std.specs.Prelude.{None, Option, Some}
 
 encoded_valid : {s : List ℕ} → Encoded s → utf8 s ≡ true
 unfolding utf8_from
@@ -28,10 +27,10 @@ valid_encoded (suc k) [] h = end
 valid_encoded (suc k) (a ∷ r) h = valid_encoded k r h
 valid_encoded zero (a ∷ r) h = go (char_at (a ∷ r)) refl h (λ k. valid_encoded k r)
   where
-    go : (t : Step) → char_at (a ∷ r) ≡ t → behind_char t (λ k. utf8_from k r) ≡ true → ((k : ℕ) → utf8_from k r ≡ true → Encoded (drop k r)) → Encoded (a ∷ r)
-    go Bad e h rest = absurd (false≢true h)
-    go (Char c zero) e h rest = absurd (omega (arith, nonempty (a ∷ r) c zero e))
-    go (Char c (suc n)) e h rest =
+    go : (t : Option (ℕ × ℕ)) → char_at (a ∷ r) ≡ t → behind_char t (λ k. utf8_from k r) ≡ true → ((k : ℕ) → utf8_from k r ≡ true → Encoded (drop k r)) → Encoded (a ∷ r)
+    go None e h rest = absurd (false≢true h)
+    go (Some (c, zero)) e h rest = absurd (omega (arith, nonempty (a ∷ r) c zero e))
+    go (Some (c, (suc n))) e h rest =
         let whole : encode c ++ drop n r ≡ a ∷ r = ap (λ (x : List ℕ). x ++ drop n r) (decode_encode (a ∷ r) c (suc n) e) ∙ take-append-drop (suc n) (a ∷ r) in
         let tail : Encoded (drop n r) = rw⁻¹ (native.Mathlib.Numerals.sub-one (suc n)) (rest (suc n - 1) h) in
         rw (← whole) (char c (decode_scalar (a ∷ r) c (suc n) e) tail)

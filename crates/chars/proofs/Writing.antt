@@ -26,3 +26,5 @@ module _ (c : ℕ) where
       let g : 0x80 ≤ c = omega arith in
       let k : 0x800 ≤ c = omega arith in
       rw (le-ltb c 0x80 g, le-ltb c 0x800 k, le-ltb c 0x10000 h)
+
+pub ruleset encodings = (encode_1, encode_2, encode_3, encode_4)

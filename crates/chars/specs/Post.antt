@@ -1,10 +1,14 @@
 -- Of inner functions alone: what they promise. No rule of a document stands here.
 -- Assumes nothing.
-use Rattle.std.specs.Prelude.{◌≡◌, List, ℕ, ◌+◌, ◌-◌, ◌≤◌, ◌<◌, length, get_or, drop}
+use Rattle.std.specs.Prelude.{◌≡◌, Bool, true, List, ℕ, ◌+◌, ◌-◌, ◌≤◌, ◌<◌, length, get_or, drop}
 use Prim.Native.Char.{code}
 use Rattle.chars.specs.Utf8.{char_at, utf8}
 use Rattle.chars.specs.White.{white_at}
-use Rattle.chars.specs.declared.Step.TheVariants.{Bad}
+use Rattle.std.specs.Prelude.{None}
+
+-- the bytes from `at` to `end` pass a test
+abbrev pub AllBytes : (ℕ → Bool) → List ℕ → ℕ → ℕ → Type 0
+AllBytes p s at end = (i : ℕ) → at ≤ i → i < end → p (get_or s i 0) ≡ true
 
 -- the bytes from `at` to `end` are ASCII
 pub record Plain (s : List ℕ) (at end : ℕ) : Type 0 where
@@ -16,7 +20,7 @@ pub record Plain (s : List ℕ) (at end : ℕ) : Type 0 where
 pub record Advances (s : List ℕ) (at n : ℕ) : Type 0 where
   pub inside : at + n ≤ length s
   pub onward : utf8 (drop at s) ≡ utf8 (drop (at + n) s)
-  pub stuck : n ≡ 0 → char_at (drop at s) ≡ Bad
+  pub stuck : n ≡ 0 → char_at (drop at s) ≡ None
 
 -- a White_Space character of n bytes ends s
 abbrev pub EndsAt : List ℕ → ℕ → Type 0

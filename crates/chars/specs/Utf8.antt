@@ -1,8 +1,7 @@
 -- UTF-8, after Table 3-7 of the Unicode Standard and section 4 of RFC 3629.
 -- Assumes nothing.
 use Rattle.std.specs.Prelude.{Bool, true, false, cond, ◌&&◌, ◌||◌, List, [], ◌∷◌, ℕ, zero, suc, ◌+◌, ◌-◌, ◌*◌, ◌/◌, ◌%◌, ltb, eqb, get_or}
-use Rattle.chars.specs.declared.Step.{Step}
-use Rattle.chars.specs.declared.Step.TheVariants.{Char, Bad}
+use Rattle.std.specs.Prelude.{None, Option, Some}
 
 -- a code point that is no surrogate: a scalar value
 unfoldable pub scalar : ℕ → Bool
@@ -16,34 +15,34 @@ unfoldable pub high : ℕ → ℕ
 high a = cond (eqb a 0xED) 0x9F (cond (eqb a 0xF4) 0x8F 0xBF)
 
 -- the character of two to four bytes whose first two are right, and how many bytes it takes
-abbrev pub long_of : ℕ → ℕ → ℕ → ℕ → Step
+abbrev pub long_of : ℕ → ℕ → ℕ → ℕ → Option (ℕ × ℕ)
 long_of a b c d =
-    cond (ltb a 0xE0) (Char ((a - 0xC0) * 64 + (b - 0x80)) 2)
-    (cond (ltb c 0x80) Bad
-    (cond (ltb 0xBF c) Bad
-    (cond (ltb a 0xF0) (Char ((a - 0xE0) * 4096 + (b - 0x80) * 64 + (c - 0x80)) 3)
-    (cond (ltb d 0x80) Bad
-    (cond (ltb 0xBF d) Bad
-    (Char ((a - 0xF0) * 262144 + (b - 0x80) * 4096 + (c - 0x80) * 64 + (d - 0x80)) 4))))))
+    cond (ltb a 0xE0) (Some (((a - 0xC0) * 64 + (b - 0x80)), 2))
+    (cond (ltb c 0x80) None
+    (cond (ltb 0xBF c) None
+    (cond (ltb a 0xF0) (Some (((a - 0xE0) * 4096 + (b - 0x80) * 64 + (c - 0x80)), 3))
+    (cond (ltb d 0x80) None
+    (cond (ltb 0xBF d) None
+    (Some (((a - 0xF0) * 262144 + (b - 0x80) * 4096 + (c - 0x80) * 64 + (d - 0x80)), 4)))))))
 
 -- the character that the bytes a b c d begin with
-unfoldable pub char_of : ℕ → ℕ → ℕ → ℕ → Step
+unfoldable pub char_of : ℕ → ℕ → ℕ → ℕ → Option (ℕ × ℕ)
 char_of a b c d =
-    cond (ltb a 0x80) (Char a 1)
-    (cond (ltb a 0xC2) Bad
-    (cond (ltb 0xF4 a) Bad
-    (cond (ltb b (low a)) Bad
-    (cond (ltb (high a) b) Bad (long_of a b c d)))))
+    cond (ltb a 0x80) (Some (a, 1))
+    (cond (ltb a 0xC2) None
+    (cond (ltb 0xF4 a) None
+    (cond (ltb b (low a)) None
+    (cond (ltb (high a) b) None (long_of a b c d)))))
 
 -- the character that a text begins with; past its end stand zeros, which continue nothing
-abbrev pub char_at : List ℕ → Step
-char_at [] = Bad
+abbrev pub char_at : List ℕ → Option (ℕ × ℕ)
+char_at [] = None
 char_at (a ∷ r) = char_of a (get_or r 0 0) (get_or r 1 0) (get_or r 2 0)
 
 -- go on behind the character that was read, past so many bytes more
-abbrev pub behind_char : Step → (ℕ → Bool) → Bool
-behind_char (Char c n) f = f (n - 1)
-behind_char Bad f = false
+abbrev pub behind_char : Option (ℕ × ℕ) → (ℕ → Bool) → Bool
+behind_char (Some (c, n)) f = f (n - 1)
+behind_char None f = false
 
 -- the text is UTF-8 behind its first k bytes, which are the rest of a character
 unfoldable pub utf8_from : ℕ → List ℕ → Bool

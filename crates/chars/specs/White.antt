@@ -2,8 +2,7 @@
 -- Assumes nothing.
 use Rattle.std.specs.Prelude.{Bool, true, false, cond, ◌&&◌, ◌||◌, List, [], ◌∷◌, ℕ, zero, suc, leb, eqb}
 use Rattle.chars.specs.Utf8.{char_at}
-use Rattle.chars.specs.declared.Step.{Step}
-use Rattle.chars.specs.declared.Step.TheVariants.{Char, Bad}
+use Rattle.std.specs.Prelude.{None, Option, Some}
 
 -- lo to hi, both included
 abbrev pub within : ℕ → ℕ → ℕ → Bool
@@ -20,9 +19,9 @@ unfoldable pub white : ℕ → Bool
 white c = within 0x9 0xD c || (eqb c 0x20 || wide_white c)
 
 -- the width of what was read, where it is White_Space
-abbrev pub width_of : Step → ℕ
-width_of (Char c n) = cond (white c) n 0
-width_of Bad = 0
+abbrev pub width_of : Option (ℕ × ℕ) → ℕ
+width_of (Some (c, n)) = cond (white c) n 0
+width_of None = 0
 
 -- how many bytes the White_Space character takes that a text begins with; 0 where it begins with none
 unfoldable pub white_at : List ℕ → ℕ

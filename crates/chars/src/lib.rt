@@ -1,117 +1,80 @@
 // Characters: UTF-8 read and written, White_Space, and a text trimmed at both ends.
-// Every function answers on every input; bytes that are no character are `Bad`, and are never White_Space.
+// Every function answers on every input; bytes that are no character decode to none, and are never White_Space.
 #![tactic(auto)]
 
-ghost use Rattle.std.specs.Prelude.{◌≡◌, true, [], ◌∷◌, ℕ, ◌+◌, ◌-◌, ◌≤◌, ◌<◌, length, get_or, drop};
+ghost use Rattle.std.specs.Prelude.{◌≡◌, Bool, true, List, [], ◌∷◌, ℕ, ◌+◌, ◌≤◌, ◌<◌, length, get_or, drop, MatchOption};
+ghost use Rattle.std.specs.Fn.{FnReturnsAt};
 ghost use Rattle.buffers.specs.Wrote.{Wrote};
 ghost use Rattle.chars.specs.Utf8.{low as low_of, high as high_of, long_of, char_of, char_at, utf8, encode};
-ghost use Rattle.chars.specs.White.{within, white, wide_white, white_at, trim_start, trim_end, trim as trimmed, blank};
-ghost use Rattle.chars.specs.Post.{Plain, Advances, EndsIn, Spaces};
+ghost use Rattle.chars.specs.White.{white, wide_white, white_at, trim_start, trim_end, trim as trimmed, blank};
+ghost use Rattle.chars.specs.Post.{AllBytes, Plain, Advances, EndsIn, Spaces};
 
-// What a text begins with.
-#[derive(Clone, Copy)]
-pub enum Step {
-    // A character: its code point, and how many bytes it takes.
-    Char(u32, usize),
-    // No character: the text is empty, or its first byte begins none.
-    Bad,
-}
-
-// The byte at i, or 0 past the end: 0 continues no character.
+// The byte at i, or 0 past the end, where no `Option` is needed: 0 continues no character.
 fn byte_at(s: &[u8], i: usize) -> u32
     ensures { (result ≡ get_or s.now i 0) × (result < 256) }
 {
-    if i < s.len() {
-        return s[i] as u32;
+    match s.get(i) {
+        Some(&b) => u32::from(b),
+        None => 0,
     }
-    0
 }
 
-// The least and the greatest second byte behind the first byte a.
-fn low(a: u32) -> u32
-    ensures { (result ≡ low_of a) × (128 ≤ result) }
+// The second bytes behind the first byte a, from the least to the greatest.
+#[tactic(auto, unfolding(crate::specs::Utf8::low, crate::specs::Utf8::high))]
+fn second_bytes(a: u32) -> (u32, u32)
+    ensures { (result.0 ≡ low_of a) × (result.1 ≡ high_of a) × (128 ≤ result.0) }
 {
-    if a == 0xe0 {
-        return 0xa0;
+    match a {
+        0xe0 => (0xa0, 0xbf),
+        0xed => (0x80, 0x9f),
+        0xf0 => (0x90, 0xbf),
+        0xf4 => (0x80, 0x8f),
+        _ => (0x80, 0xbf),
     }
-    if a == 0xf0 {
-        return 0x90;
-    }
-    0x80
 }
 
-fn high(a: u32) -> u32
-    ensures { result ≡ high_of a }
-{
-    if a == 0xed {
-        return 0x9f;
-    }
-    if a == 0xf4 {
-        return 0x8f;
-    }
-    0xbf
-}
-
-// The character of two to four bytes whose first two are right.
-fn long_char(a: u32, b: u32, c: u32, d: u32) -> Step
+// The character of two to four bytes whose first two are right: its code point, and how many bytes it takes.
+fn long_char(a: u32, b: u32, c: u32, d: u32) -> Option<(u32, usize)>
     requires { (0xC2 ≤ a) × (a < 256) × (128 ≤ b) × (b < 256) × (c < 256) × (d < 256) }
     ensures { result ≡ long_of a b c d }
 {
-    if a < 0xe0 {
-        return Step::Char((a - 0xc0) * 64 + (b - 0x80), 2);
+    match (a, c, d) {
+        (..0xe0, _, _) => Some(((a - 0xc0) * 64 + (b - 0x80), 2)),
+        (..0xf0, 0x80..=0xbf, _) => Some(((a - 0xe0) * 4096 + (b - 0x80) * 64 + (c - 0x80), 3)),
+        (0xf0.., 0x80..=0xbf, 0x80..=0xbf) => Some((
+            (a - 0xf0) * 262144 + (b - 0x80) * 4096 + (c - 0x80) * 64 + (d - 0x80),
+            4,
+        )),
+        _ => None,
     }
-    if c < 0x80 {
-        return Step::Bad;
-    }
-    if 0xbf < c {
-        return Step::Bad;
-    }
-    if a < 0xf0 {
-        return Step::Char((a - 0xe0) * 4096 + (b - 0x80) * 64 + (c - 0x80), 3);
-    }
-    if d < 0x80 {
-        return Step::Bad;
-    }
-    if 0xbf < d {
-        return Step::Bad;
-    }
-    Step::Char(
-        (a - 0xf0) * 262144 + (b - 0x80) * 4096 + (c - 0x80) * 64 + (d - 0x80),
-        4,
-    )
 }
 
 // The character that four bytes begin with.
-fn char_of(a: u32, b: u32, c: u32, d: u32) -> Step
+#[tactic(auto, unfolding(crate::specs::Utf8::char_of))]
+fn char_of(a: u32, b: u32, c: u32, d: u32) -> Option<(u32, usize)>
     requires { (a < 256) × (b < 256) × (c < 256) × (d < 256) }
     ensures { result ≡ char_of a b c d }
 {
-    if a < 0x80 {
-        return Step::Char(a, 1);
+    match a {
+        0..0x80 => Some((a, 1)),
+        0xc2..=0xf4 => {
+            let (least, greatest) = second_bytes(a);
+            if b < least || greatest < b {
+                return None;
+            }
+            long_char(a, b, c, d)
+        }
+        _ => None,
     }
-    if a < 0xc2 {
-        return Step::Bad;
-    }
-    if 0xf4 < a {
-        return Step::Bad;
-    }
-    let lo = low(a);
-    let hi = high(a);
-    if b < lo {
-        return Step::Bad;
-    }
-    if hi < b {
-        return Step::Bad;
-    }
-    long_char(a, b, c, d)
 }
 
-// The character at a place.
-pub fn decode_char(s: &[u8], at: usize) -> Step
+// The character at a place: its code point, and how many bytes it takes. None where the text ends there, or the byte begins none.
+#[tactic(auto, using(crate::proofs::Reading::char_here))]
+pub fn decode_char(s: &[u8], at: usize) -> Option<(u32, usize)>
     ensures { result ≡ char_at (drop at s.now) }
 {
     if s.len() <= at {
-        return Step::Bad;
+        return None;
     }
     char_of(
         byte_at(s, at),
@@ -122,19 +85,16 @@ pub fn decode_char(s: &[u8], at: usize) -> Step
 }
 
 // How many bytes the character c takes.
+#[tactic(auto, unfolding(crate::specs::Utf8::encode))]
 pub fn char_length(c: u32) -> usize
     ensures { (result ≡ length (encode c)) × (result ≤ 4) }
 {
-    if c < 0x80 {
-        return 1;
+    match c {
+        0..0x80 => 1,
+        0x80..0x800 => 2,
+        0x800..0x10000 => 3,
+        _ => 4,
     }
-    if c < 0x800 {
-        return 2;
-    }
-    if c < 0x10000 {
-        return 3;
-    }
-    4
 }
 
 // Appends two bytes behind the first `at`. The answer is where the text then ends.
@@ -146,7 +106,8 @@ fn append_two(out: &mut [u8], at: usize, a: u8, b: u8) -> usize
     buffers::append_byte(out, next, b)
 }
 
-// Appends the character c behind the first `at`. The answer is where the text then ends.
+// Appends the character c behind the first `at`. The answer is where the text then ends. No `match`: the longer forms share their last bytes.
+#[tactic(auto, using(crate::proofs::Writing::encodings))]
 pub fn append_char(out: &mut [u8], at: usize, c: u32) -> usize
     requires { (c < 0x110000) × (at + length (encode c) ≤ length out.old) }
     ensures { Wrote out.old at out.new result (encode c) }
@@ -176,16 +137,30 @@ pub fn append_char(out: &mut [u8], at: usize, c: u32) -> usize
 fn greatest(s: &[u8]) -> u8
     ensures { (i : ℕ) → i < length s.now → get_or s.now i 0 ≤ result }
 {
-    let mut top: u8 = 0;
-    let mut i: usize = 0;
-    while i < s.len() {
-        let b = s[i];
-        if top < b {
-            top = b;
+    s.iter().copied().max().unwrap_or(0)
+}
+
+// Past the blocks of N bytes from `at` on that pass a test. What the test says of each byte of a block holds of each byte passed.
+fn blocks_end<const N: usize, F: Fn(&[u8]) -> bool>(s: &[u8], at: usize, passes: F) -> usize
+    requires callable { F.IsAlwaysCallable passes }
+    requires nonempty { 0 < N }
+    requires start { at ≤ length s.now }
+    ensures forward { at ≤ result }
+    ensures inside { result ≤ length s.now }
+    ensures passed { (p : ℕ → Bool)
+        → ((block : List ℕ) → FnReturnsAt F.Fn passes block true → AllBytes p block 0 (length block))
+        → AllBytes p s.now at result }
+{
+    let mut i = at;
+    // no `for`: whole blocks alone are passed, up to the first that does not pass
+    while N <= s.len() - i {
+        let end = i + N;
+        if !passes(&s[i..end]) {
+            return i;
         }
-        i += 1;
+        i = end;
     }
-    top
+    i
 }
 
 // Where the ASCII bytes from `at` on end, or `limit` where none ends them before it.
@@ -193,30 +168,10 @@ fn plain_end(s: &[u8], at: usize, limit: usize) -> usize
     requires { (at ≤ limit) × (limit ≤ length s.now) }
     ensures { Plain s.now at result × (result ≤ limit) }
 {
-    let mut i = at;
-    while i < limit {
-        if 0x7f < s[i] {
-            return i;
-        }
-        i += 1;
+    match s[at..limit].iter().position(|&b| 0x7f < b) {
+        Some(n) => at + n,
+        None => limit,
     }
-    i
-}
-
-// The same by blocks of 64 bytes: where the first block starts that is not all ASCII, or fewer than 64 bytes are left.
-fn blocks_end(s: &[u8], at: usize) -> usize
-    requires { at ≤ length s.now }
-    ensures { Plain s.now at result × (result ≤ length s.now) }
-{
-    let mut i = at;
-    while 64 <= s.len() - i {
-        let end = i + 64;
-        if 0x7f < greatest(&s[i..end]) {
-            return i;
-        }
-        i = end;
-    }
-    i
 }
 
 // Where the ASCII bytes from `at` on end: short runs byte by byte, and blocks only where a run is long.
@@ -233,45 +188,35 @@ fn ascii_end(s: &[u8], at: usize) -> usize
     if first < near {
         return first;
     }
-    plain_end(s, blocks_end(s, near), n)
+    let far = blocks_end::<64, _>(s, near, |block| greatest(block) <= 0x7f);
+    plain_end(s, far, n)
 }
 
-// The width of the two-byte character at a place whose first byte a is past ASCII and below 0xe0; 0 where none stands there.
-fn two_bytes(s: &[u8], at: usize) -> usize
+// The width of the two-byte character at a place whose first byte is past ASCII and below 0xe0.
+#[tactic(auto, using(crate::proofs::Runs::two_good))]
+fn two_bytes(s: &[u8], at: usize) -> Option<usize>
     requires { (at < length s.now) × (128 ≤ get_or s.now at 0) × (get_or s.now at 0 < 224) }
-    ensures { Advances s.now at result }
+    ensures { MatchOption result (Advances s.now at 0) (λ n. (0 < n) × Advances s.now at n) }
 {
-    if s[at] < 0xc2 {
-        return 0;
+    match s.get(at + 1) {
+        Some(0x80..=0xbf) if 0xc2 <= s[at] => Some(2),
+        _ => None,
     }
-    if s.len() - at < 2 {
-        return 0;
-    }
-    let b = s[at + 1];
-    if b < 0x80 {
-        return 0;
-    }
-    if 0xbf < b {
-        return 0;
-    }
-    2
 }
 
-// How many bytes from `at` on are surely whole characters: a run of ASCII, one character, or none where none stands.
-fn advance(s: &[u8], at: usize) -> usize
+// How many bytes from `at` on are surely whole characters: a run of ASCII, or one character.
+#[tactic(auto, using(crate::proofs::Reading::advance_char))]
+fn advance(s: &[u8], at: usize) -> Option<usize>
     requires { at < length s.now }
-    ensures { Advances s.now at result }
+    ensures { MatchOption result (Advances s.now at 0) (λ n. (0 < n) × Advances s.now at n) }
 {
-    let a = s[at];
-    if a < 0x80 {
-        return ascii_end(s, at + 1) - at;
-    }
-    if a < 0xe0 {
-        return two_bytes(s, at);
-    }
-    match decode_char(s, at) {
-        Step::Char(_, n) => n,
-        Step::Bad => 0,
+    match s[at] {
+        0..0x80 => Some(ascii_end(s, at + 1) - at),
+        0x80..0xe0 => two_bytes(s, at),
+        _ => {
+            let (_, n) = decode_char(s, at)?;
+            Some(n)
+        }
     }
 }
 
@@ -280,247 +225,166 @@ pub fn is_utf8(s: &[u8]) -> bool
     ensures { result ≡ utf8 s.now }
 {
     let mut at: usize = 0;
+    // no `for`: a character of up to four bytes, or a run of ASCII, is passed in one step
     while at < s.len() {
-        let n = advance(s, at);
-        if n == 0 {
-            return false;
+        match advance(s, at) {
+            Some(n) => at += n,
+            None => return false,
         }
-        at += n;
     }
     true
 }
 
-fn is_within(lo: u32, hi: u32, c: u32) -> bool
-    ensures { result ≡ within lo hi c }
-{
-    if c < lo {
-        return false;
-    }
-    c <= hi
-}
-
 // Is the code point c White_Space? ASCII is decided first.
+#[tactic(auto, using(crate::proofs::Ending::not_wide), unfolding(crate::specs::White::white))]
 fn is_white(c: u32) -> bool
     ensures { result ≡ white c }
 {
-    if is_within(0x9, 0xd, c) {
-        return true;
+    match c {
+        0x9..=0xd | 0x20 => true,
+        0..0x85 => false,
+        _ => is_wide_white(c),
     }
-    if c == 0x20 {
-        return true;
-    }
-    if c < 0x85 {
-        return false;
-    }
-    is_wide_white(c)
 }
 
 // The same of a code point that is not ASCII.
+#[tactic(auto, unfolding(crate::specs::White::wide_white))]
 fn is_wide_white(c: u32) -> bool
     ensures { result ≡ wide_white c }
 {
-    if c == 0x85 {
-        return true;
-    }
-    if c == 0xa0 {
-        return true;
-    }
-    if c == 0x1680 {
-        return true;
-    }
-    if is_within(0x2000, 0x200a, c) {
-        return true;
-    }
-    if c == 0x2028 {
-        return true;
-    }
-    if c == 0x2029 {
-        return true;
-    }
-    if c == 0x202f {
-        return true;
-    }
-    if c == 0x205f {
-        return true;
-    }
-    c == 0x3000
+    matches!(
+        c,
+        0x85 | 0xa0 | 0x1680 | 0x2000..=0x200a | 0x2028 | 0x2029 | 0x202f | 0x205f | 0x3000
+    )
 }
 
 // Is b ASCII and past the space? No White_Space character begins or ends with such a byte.
 fn is_past_space(b: u8) -> bool
     ensures { result ≡ true → (32 < b) × (b < 128) }
 {
-    if b <= b' ' {
-        return false;
-    }
-    b < 0x80
+    matches!(b, b'!'..=0x7f)
 }
 
 // How many bytes the White_Space character takes that the text begins with; 0 where it begins with none. A space, and
 // what comes behind it in ASCII, is decided in place.
+#[tactic(auto, using(crate::proofs::Ending::white_empty, crate::proofs::Spacing::begins_past, crate::proofs::Spacing::begins_space))]
 pub fn white_width(s: &[u8]) -> usize
     ensures value { result ≡ white_at s.now }
     ensures upper_bound { result ≤ length s.now }
 {
-    if s.len() == 0 {
-        return 0;
+    match s.first() {
+        None => 0,
+        Some(&b) if is_past_space(b) => 0,
+        Some(b' ') => 1,
+        Some(_) => wide_width(s),
     }
-    let first = s[0];
-    if is_past_space(first) {
-        return 0;
-    }
-    if first == b' ' {
-        return 1;
-    }
-    wide_width(s)
 }
 
 // The same, by decoding the character.
+#[tactic(auto, using(crate::proofs::Reading::char_whole), unfolding(crate::specs::White::white_at))]
 fn wide_width(s: &[u8]) -> usize
     ensures value { result ≡ white_at s.now }
     ensures upper_bound { result ≤ length s.now }
 {
     match decode_char(s, 0) {
-        Step::Char(c, n) => {
-            if is_white(c) {
-                return n;
-            }
-            0
-        }
-        Step::Bad => 0,
+        Some((c, n)) if is_white(c) => n,
+        _ => 0,
     }
 }
 
-// How many bytes the White_Space character takes that the text ends in; 0 where it ends in none. A space, and what comes behind it in
-// ASCII, is decided in place.
-fn white_end(s: &[u8]) -> usize
-    ensures { EndsIn s.now result }
+// How many bytes the White_Space character takes that the text ends in. A space, and what comes behind it in ASCII, is decided in place.
+#[tactic(auto, using(crate::proofs::Spacing::ends_past, crate::proofs::Spacing::ends_space))]
+fn white_end(s: &[u8]) -> Option<usize>
+    ensures { MatchOption result (EndsIn s.now 0) (λ n. (0 < n) × EndsIn s.now n) }
 {
-    let n = s.len();
-    if n < 1 {
-        return 0;
+    match s.last() {
+        None => None,
+        Some(&b) if is_past_space(b) => None,
+        Some(b' ') => Some(1),
+        Some(_) => wide_end(s),
     }
-    let last = s[n - 1];
-    if is_past_space(last) {
-        return 0;
-    }
-    if last == b' ' {
-        return 1;
-    }
-    wide_end(s)
 }
 
 // The same, by decoding the last bytes. None takes more than three.
-fn wide_end(s: &[u8]) -> usize
+fn wide_end(s: &[u8]) -> Option<usize>
     requires { 1 ≤ length s.now }
-    ensures { EndsIn s.now result }
+    ensures { MatchOption result (EndsIn s.now 0) (λ n. (0 < n) × EndsIn s.now n) }
 {
-    let n = s.len();
-    let first = n - 1;
-    if wide_width(&s[first..]) == 1 {
-        return 1;
+    for n in 1..=s.len().min(3) {
+        if wide_width(&s[s.len() - n..]) == n {
+            return Some(n);
+        }
     }
-    if n < 2 {
-        return 0;
-    }
-    let second = n - 2;
-    if wide_width(&s[second..]) == 2 {
-        return 2;
-    }
-    if n < 3 {
-        return 0;
-    }
-    let third = n - 3;
-    if wide_width(&s[third..]) == 3 {
-        return 3;
-    }
-    0
+    None
 }
 
 // Does s begin with a byte past the space?
+#[tactic(auto, using(crate::proofs::Spacing::begins_past))]
 fn begins_past_space(s: &[u8]) -> bool
     ensures { result ≡ true → white_at s.now ≡ 0 }
 {
-    if s.len() == 0 {
-        return false;
+    match s.first() {
+        Some(&b) => is_past_space(b),
+        None => false,
     }
-    is_past_space(s[0])
 }
 
 // Does s end with one?
+#[tactic(auto, using(crate::proofs::Spacing::ends_past))]
 fn ends_past_space(s: &[u8]) -> bool
     ensures { result ≡ true → EndsIn s.now 0 }
 {
-    let n = s.len();
-    if n == 0 {
-        return false;
+    match s.last() {
+        Some(&b) => is_past_space(b),
+        None => false,
     }
-    is_past_space(s[n - 1])
 }
 
 // Does s begin with one space and a byte past it?
+#[tactic(auto, using(crate::proofs::Spacing::one_space))]
 fn begins_with_one(s: &[u8]) -> bool
     ensures { result ≡ true → (1 ≤ length s.now) × (trim_start s.now ≡ drop 1 s.now) }
 {
-    if s.len() < 2 {
-        return false;
+    match s {
+        [b' ', b, ..] => is_past_space(*b),
+        _ => false,
     }
-    if s[0] != b' ' {
-        return false;
-    }
-    is_past_space(s[1])
 }
 
-// Is there anything but spaces among these bytes? 0 where not. Every byte is looked at, so that the compiler takes many at a time.
+// Is there anything but spaces among these bytes? 0 where not. Every byte is looked at, so that the compiler takes many at a time:
+// `all`, which stops at the first, takes 20 % longer on blank lines.
+#[tactic(auto, using(crate::proofs::Spacing::spaces_more))]
 fn others_in(s: &[u8]) -> u8
     ensures { result ≡ 0 → Spaces s.now (length s.now) }
 {
     let mut others: u8 = 0;
-    let mut i: usize = 0;
-    while i < s.len() {
-        if s[i] != b' ' {
+    for &b in s {
+        if b != b' ' {
             others = 1;
         }
-        i += 1;
     }
     others
-}
-
-// Past the blocks of 16 spaces at the start.
-fn spaces_blocks(s: &[u8]) -> usize
-    ensures { Spaces s.now result × (result ≤ length s.now) }
-{
-    let mut i: usize = 0;
-    while 16 <= s.len() - i {
-        let end = i + 16;
-        if others_in(&s[i..end]) != 0 {
-            return i;
-        }
-        i = end;
-    }
-    i
 }
 
 // Past the spaces at the start.
 fn spaces_end(s: &[u8]) -> usize
     ensures { Spaces s.now result × (result ≤ length s.now) }
 {
-    let mut i = spaces_blocks(s);
-    while i < s.len() {
-        if s[i] != b' ' {
-            return i;
-        }
-        i += 1;
+    let far = blocks_end::<16, _>(s, 0, |block| others_in(block) == 0);
+    match s[far..].iter().position(|&b| b != b' ') {
+        Some(n) => far + n,
+        None => s.len(),
     }
-    i
 }
 
 // Without the White_Space at the start, character by character behind the spaces.
+#[tactic(auto, using(crate::proofs::Trimming::trim_start_stays))]
 fn strip_start(s: &[u8]) -> &[u8]
     ensures { result.now ≡ trim_start s.now }
 {
     let at = spaces_end(s);
     let mut t = &s[at..];
+    // no `for`: a character of up to four bytes is passed in one step
     loop {
         let n = white_width(t);
         if n == 0 {
@@ -535,14 +399,11 @@ fn strip_end(s: &[u8]) -> &[u8]
     ensures { result.now ≡ trim_end s.now }
 {
     let mut t = s;
-    loop {
-        let n = white_end(t);
-        if n == 0 {
-            return t;
-        }
-        let end = t.len() - n;
-        t = &t[..end];
+    // no `for`: a character of up to four bytes is passed in one step
+    while let Some(n) = white_end(t) {
+        t = &t[..t.len() - n];
     }
+    t
 }
 
 // Without the White_Space at both ends.
@@ -553,6 +414,7 @@ fn strip(s: &[u8]) -> &[u8]
 }
 
 // Without the White_Space at the start. Most texts begin with none, or with one space: these are answered in place.
+#[tactic(auto, using(crate::proofs::Trimming::trim_start_stays))]
 pub fn trim_start(s: &[u8]) -> &[u8]
     ensures { result.now ≡ trim_start s.now }
 {
@@ -566,6 +428,7 @@ pub fn trim_start(s: &[u8]) -> &[u8]
 }
 
 // Without the White_Space at the end.
+#[tactic(auto, using(crate::proofs::Trimming::trim_end_stays))]
 pub fn trim_end(s: &[u8]) -> &[u8]
     ensures { result.now ≡ trim_end s.now }
 {
@@ -576,27 +439,23 @@ pub fn trim_end(s: &[u8]) -> &[u8]
 }
 
 // Without the White_Space at both ends: `str::trim`.
+#[tactic(auto, using(crate::proofs::Trimming::trim_stays))]
 pub fn trim(s: &[u8]) -> &[u8]
     ensures { result.now ≡ trimmed s.now }
 {
-    if begins_past_space(s) {
-        if ends_past_space(s) {
-            return s;
-        }
+    if begins_past_space(s) && ends_past_space(s) {
+        return s;
     }
     strip(s)
 }
 
 // Is there nothing but White_Space?
+#[tactic(auto, using(crate::proofs::Spacing::begins_past, crate::proofs::Spacing::past_not_blank))]
 pub fn is_blank(s: &[u8]) -> bool
     ensures { result ≡ blank s.now }
 {
-    if s.len() == 0 {
-        return true;
+    match s.first() {
+        Some(&b) if is_past_space(b) => false,
+        _ => strip(s).is_empty(),
     }
-    if is_past_space(s[0]) {
-        return false;
-    }
-    let t = strip(s);
-    t.len() == 0
 }

@@ -3,7 +3,6 @@
 use mathlib.Core.Path.{◌≡◌, refl, sym, ap, ◌∙◌}
 use mathlib.Core.Bool.{Bool, true, false, cond, ◌&&◌, ◌||◌}
 use mathlib.Core.List.{List, [], ◌∷◌, ◌++◌}
-use mathlib.Core.Option.{Option, none, some}
 use Prim.Native.Nat.{ℕ, zero, suc, ◌+◌, ◌*◌}
 use Prim.Native.Char.{code}
 use native.Mathlib.Decide.{ℕ_discrete}
@@ -19,6 +18,7 @@ use Rattle.escapes.specs.Cedar.{Literal, char, wrong, ascii_of, next_digit, unic
 use Rattle.escapes.specs.declared.Escape.{Escape}
 use Rattle.escapes.specs.declared.Escape.TheVariants.{Char}
 use Rattle.escapes.proofs.Braces.{braces_named, braces_next, close, same_first, digit, underscore, first_other}
+use Rattle.std.specs.Prelude.{None, Option, Some}
 
 -- an escape that Cedar accepts is the same escape in decoding
 abbrev Agrees : Literal → Escape → Type 0
@@ -30,13 +30,13 @@ both true x y e f p q = p
 both false x y e f p q = q
 
 ascii_agrees : (o p : Option ℕ) → Agrees (ascii_of o p) (byte_of o p)
-ascii_agrees (some v) (some w) = go (leb (v * 16 + w) 0x7F)
+ascii_agrees (Some v) (Some w) = go (leb (v * 16 + w) 0x7F)
   where
     go : (t : Bool) → Agrees (cond t (char (v * 16 + w) 3) wrong) (Char (v * 16 + w) 3)
     go true = refl
     go false = tt
-ascii_agrees (some v) none = tt
-ascii_agrees none p = tt
+ascii_agrees (Some v) None = tt
+ascii_agrees None p = tt
 
 -- the digits between the braces
 closed : (v n : ℕ) → scalar v ≡ true → char_or (numbered true v []) n ≡ Char v n
@@ -79,11 +79,11 @@ digits_agree count v n (b ∷ r) =
     at_digit : (o : Option ℕ) → hex_digit b ≡ o → (b ≡ code "}" → ⊥)
         → ((c v : ℕ) → Agrees (unicode_from c v (n + 1) r) (braces (numbered (leb 1 c) v) (n + 1) r))
         → P (next_digit o (λ d. unicode_from (suc count) (v * 16 + d) (n + 1) r))
-    at_digit (some d) e m ih =
+    at_digit (Some d) e m ih =
         onward (suc count) (v * 16 + d) (unicode_from (suc count) (v * 16 + d) (n + 1) r) (ih (suc count) (v * 16 + d))
         (rw (le-leb 1 (suc count) (omega arith))
         (braces_next (numbered (leb 1 count) v) (numbered true (v * 16 + d)) n b r m (digit b (leb 1 count) v d e)))
-    at_digit none e m ih = tt
+    at_digit None e m ih = tt
 
 carried : (l : Literal) (e f : Escape) → e ≡ f → Agrees l e → Agrees l f
 carried (char v n) e f p a = sym p ∙ a
@@ -118,20 +118,20 @@ escape_agrees r =
     (both (eqb b (code "u") && eqb (get_or r 1 0) (code "{")) _ _ _ _ (unicode_agrees (drop 2 r)) tt))))))))
 
 -- what stands in front is taken off
-split : (x : List ℕ) (o : Option (List ℕ)) (out : List ℕ) → before_rest x o ≡ some out → (y : List ℕ) × (o ≡ some y) × (x ++ y ≡ out)
-split x (some y) out e = (y, refl, cc)
-split x none out e = let z : ◌≡◌ {A = ℕ} 0 1 = cc in absurd (omega arith)
+split : (x : List ℕ) (o : Option (List ℕ)) (out : List ℕ) → before_rest x o ≡ Some out → (y : List ℕ) × (o ≡ Some y) × (x ++ y ≡ out)
+split x (Some y) out e = (y, refl, cc)
+split x None out e = let z : ◌≡◌ {A = ℕ} 0 1 = cc in absurd (omega arith)
 
 -- the whole text: behind the first k bytes
-agrees_from : (k : ℕ) (s out : List ℕ) → cedar_from k s ≡ some out → unescape_from k s ≡ out
+agrees_from : (k : ℕ) (s out : List ℕ) → cedar_from k s ≡ Some out → unescape_from k s ≡ out
 unfolding cedar_from unescape_from
 agrees_from k [] out e = cc
 agrees_from (suc k) (a ∷ r) out e = agrees_from k r out e
 agrees_from zero (a ∷ r) out e = go (eqb a (code "\\")) refl (eqb a (code "\"") || eqb a (code "\r")) (literal_at r) (escape_agrees r) (λ k out e. agrees_from k r out e) e
   where
     go : (t : Bool) → eqb a (code "\\") ≡ t → (u : Bool) (l : Literal) → Agrees l (escape_at r)
-        → ((k : ℕ) (out : List ℕ) → cedar_from k r ≡ some out → unescape_from k r ≡ out)
-        → cond t (literally l (λ k. cedar_from k r)) (cond u none (before_rest (a ∷ []) (cedar_from 0 r))) ≡ some out
+        → ((k : ℕ) (out : List ℕ) → cedar_from k r ≡ Some out → unescape_from k r ≡ out)
+        → cond t (literally l (λ k. cedar_from k r)) (cond u None (before_rest (a ∷ []) (cedar_from 0 r))) ≡ Some out
         → unescape_from zero (a ∷ r) ≡ out
     go true p u (char v n) g ih e =
         let j = split (encode v) (cedar_from n r) out e in
@@ -143,5 +143,5 @@ agrees_from zero (a ∷ r) out e = go (eqb a (code "\\")) refl (eqb a (code "\""
         rw p (ap (λ (y : List ℕ). a ∷ y) (ih 0 j.0 j.1) ∙ j.2)
 
 -- wherever Cedar accepts a text, decoding gives the same bytes
-pub cedar_agrees : (s out : List ℕ) → cedar s ≡ some out → unescape s ≡ out
+pub cedar_agrees : (s out : List ℕ) → cedar s ≡ Some out → unescape s ≡ out
 cedar_agrees s out e = agrees_from 0 s out e

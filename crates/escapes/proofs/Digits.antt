@@ -3,45 +3,41 @@
 use mathlib.Core.Path.{◌≡◌}
 use mathlib.Core.Logic.{◌⊎◌, inl, inr}
 use mathlib.Core.Bool.{false}
-use mathlib.Core.Option.{some}
 use Prim.Native.Nat.{ℕ, ◌-◌, ◌≤◌, ◌<◌}
 use Prim.Native.Char.{code}
 use native.Mathlib.Omega.{arith}
 use lib.Dec.{leb}
-use borrow.Author.Tests.{lt-ltb, le-leb, lt-leb}
+use borrow.Author.Tests.{le-leb, lt-leb}
 use Rattle.buffers.proofs.Choice.{and_false}
 use Rattle.chars.specs.White.{within}
 use Rattle.escapes.specs.Unescape.{hex_digit}
-use Rattle.escapes.specs.Walk.{digit_or}
+use Rattle.std.specs.Prelude.{None, Some}
 
-pub zero_no_digit : {b : ℕ} → b ≡ 0 → hex_digit b ≡ digit_or 16
+pub zero_no_digit : {b : ℕ} → b ≡ 0 → hex_digit b ≡ None
 unfolding hex_digit
 zero_no_digit e = rw e
 
 module _ (b : ℕ) where
-  small : (v : ℕ) → v < 16 → some v ≡ digit_or v
-  small v h = rw (lt-ltb v 16 h)
-
-  pub decimal_digit : code "0" ≤ b → b ≤ code "9" → hex_digit b ≡ digit_or (b - code "0")
+  pub decimal_digit : code "0" ≤ b → b ≤ code "9" → hex_digit b ≡ Some (b - code "0")
   unfolding hex_digit
-  decimal_digit h l = rw (le-leb (code "0") b h, le-leb b (code "9") l) (small (b - code "0") (omega arith))
+  decimal_digit h l = rw (le-leb (code "0") b h, le-leb b (code "9") l)
 
-  pub upper : code "A" ≤ b → b ≤ code "F" → hex_digit b ≡ digit_or (b - (code "A" - 10))
+  pub upper : code "A" ≤ b → b ≤ code "F" → hex_digit b ≡ Some (b - (code "A" - 10))
   unfolding hex_digit
   upper h l =
       let a : code "0" ≤ b = omega arith in
       let c : code "9" < b = omega arith in
       let d : b < code "a" = omega arith in
-      rw (le-leb (code "0") b a, lt-leb b (code "9") c, lt-leb (code "a") b d, le-leb (code "A") b h, le-leb b (code "F") l) (small (b - (code "A" - 10)) (omega arith))
+      rw (le-leb (code "0") b a, lt-leb b (code "9") c, lt-leb (code "a") b d, le-leb (code "A") b h, le-leb b (code "F") l)
 
-  pub lower : code "a" ≤ b → b ≤ code "f" → hex_digit b ≡ digit_or (b - (code "a" - 10))
+  pub lower : code "a" ≤ b → b ≤ code "f" → hex_digit b ≡ Some (b - (code "a" - 10))
   unfolding hex_digit
   lower h l =
       let a : code "0" ≤ b = omega arith in
       let c : code "9" < b = omega arith in
-      rw (le-leb (code "0") b a, lt-leb b (code "9") c, le-leb (code "a") b h, le-leb b (code "f") l) (small (b - (code "a" - 10)) (omega arith))
+      rw (le-leb (code "0") b a, lt-leb b (code "9") c, le-leb (code "a") b h, le-leb b (code "f") l)
 
-  pub no_digit : (b < code "0") ⊎ (code "9" < b) → (b < code "A") ⊎ (code "F" < b) → (b < code "a") ⊎ (code "f" < b) → hex_digit b ≡ digit_or 16
+  pub no_digit : (b < code "0") ⊎ (code "9" < b) → (b < code "A") ⊎ (code "F" < b) → (b < code "a") ⊎ (code "f" < b) → hex_digit b ≡ None
   unfolding hex_digit
   no_digit p q s = rw (out (code "0") (code "9") p, out (code "a") (code "f") s, out (code "A") (code "F") q)
     where

@@ -15,38 +15,39 @@ use Rattle.format.specs.Refusals.{text_too_long, not_utf8, output_too_short}
 use Rattle.chars.specs.Utf8.{utf8}
 use Rattle.escapes.specs.Unescape.{unescape}
 use Rattle.escapes.specs.Entry.{decoded, filled, output_after}
-use Rattle.escapes.specs.declared.Decoded.{Decoded}
-use Rattle.escapes.specs.declared.Decoded.TheVariants.{Written, Refused}
+use Rattle.format.specs.declared.Refusal.{Refusal}
+use Rattle.std.specs.Prelude.{Err, Ok, Result}
+use Rattle.format.specs.declared.Refusal.{Refusal}
 
 -- the answer, and what the output holds
-abbrev pub DecodeAnswers : List ℕ → List ℕ → Decoded → List ℕ → Type 0
+abbrev pub DecodeAnswers : List ℕ → List ℕ → Result ℕ Refusal → List ℕ → Type 0
 DecodeAnswers text output answer after = (answer ≡ decoded text (length output)) × (after ≡ output_after text output)
 
 module _ (text output : List ℕ) where
-  refused : (k : ℕ) → decoded text (length output) ≡ Refused k → DecodeAnswers text output (Refused k) output
+  refused : (k : Refusal) → decoded text (length output) ≡ Err k → DecodeAnswers text output (Err k) output
   refused k e = (sym e, sym (ap (filled text output) e))
 
-  pub decode_too_long : leb (length text) text_limit ≡ false → DecodeAnswers text output (Refused text_too_long) output
+  pub decode_too_long : leb (length text) text_limit ≡ false → DecodeAnswers text output (Err text_too_long) output
   unfolding decoded
   decode_too_long l = refused text_too_long (rw l)
 
   module _ (l : leb (length text) text_limit ≡ true) where
-    pub no_utf8 : utf8 text ≡ false → DecodeAnswers text output (Refused not_utf8) output
+    pub no_utf8 : utf8 text ≡ false → DecodeAnswers text output (Err not_utf8) output
     unfolding decoded
     no_utf8 u = refused not_utf8 (rw (l, u))
 
     module _ (u : utf8 text ≡ true) (n : ℕ) (e : n ≡ length (unescape text)) where
-      pub decode_no_room : length output < n → DecodeAnswers text output (Refused output_too_short) output
+      pub decode_no_room : length output < n → DecodeAnswers text output (Err output_too_short) output
       unfolding decoded
       decode_no_room h = refused output_too_short (rw (l, u, lt-leb (length (unescape text)) (length output) (omega arith)))
 
-      fits : n ≤ length output → decoded text (length output) ≡ Written n
+      fits : n ≤ length output → decoded text (length output) ≡ Ok n
       unfolding decoded
-      fits h = rw (l, u, le-leb (length (unescape text)) (length output) (omega arith)) (ap Written (sym e))
+      fits h = rw (l, u, le-leb (length (unescape text)) (length output) (omega arith)) (ap Ok (sym e))
 
       -- the output's first n bytes were lent, and came back as `front`
       pub decode_written : (front : List ℕ) (end : ℕ) → n ≤ length output → length front ≡ length (take n output)
-          → Wrote (take n output) 0 front end (unescape text) → DecodeAnswers text output (Written n) (front ++ drop n output)
+          → Wrote (take n output) 0 front end (unescape text) → DecodeAnswers text output (Ok n) (front ++ drop n output)
       decode_written front end h k w =
           (sym (fits h), ap (λ (t : List ℕ). t ++ drop n output) whole ∙ sym (ap (filled text output) (fits h)))
         where

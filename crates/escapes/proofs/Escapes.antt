@@ -3,15 +3,14 @@
 use mathlib.Core.Path.{◌≡◌, refl, sym, ap, ◌∙◌}
 use mathlib.Core.Bool.{Bool, true, false, cond, ◌&&◌}
 use mathlib.Core.List.{List, [], ◌∷◌}
-use mathlib.Core.Option.{Option, none, some}
 use Prim.Native.Nat.{ℕ, suc, ◌+◌, ◌-◌, ◌*◌, ◌≤◌, ◌<◌, zero-le}
 use Prim.Native.Char.{code}
 use native.Mathlib.Nat.{add-zero}
 use native.Mathlib.Omega.{arith}
-use lib.Dec.{leb, ltb, eqb}
+use lib.Dec.{leb, eqb}
 use lib.ListN.{length, get_or, drop, length-drop, drop_of_length-le}
 use lib.Seq.{drop-drop, get_or-drop}
-use borrow.Author.Tests.{ne_eqb, eqb-true, leb-true, lt-ltb, le-ltb}
+use borrow.Author.Tests.{ne_eqb, eqb-true, leb-true, lt-ltb}
 use Rattle.buffers.proofs.Choice.{by_cond, both_arms, and_left, and_right}
 use Rattle.chars.specs.Utf8.{scalar, encode}
 use Rattle.chars.proofs.Reading.{byte_inside}
@@ -22,18 +21,23 @@ use Rattle.escapes.specs.declared.Escape.{Escape}
 use Rattle.escapes.specs.declared.Escape.TheVariants.{Char, Verbatim}
 use Rattle.escapes.proofs.Braces.{braces_named}
 use Rattle.escapes.proofs.Encoding.{encoded}
+use Rattle.std.specs.Prelude.{None, Option, Some}
 
 -- the letters of the short escapes
-pub short_code : (b : ℕ) (o : Escape) → short_or b o ≡ cond (ltb (short_of b) 128) (Char (short_of b) 1) o
+abbrev pub code_or : Option ℕ → Escape → Escape
+code_or (Some c) o = Char c 1
+code_or None o = o
+
+pub short_code : (b : ℕ) (o : Escape) → short_or b o ≡ code_or (short_of b) o
 unfolding short_or short_of
 short_code b o = go (eqb b (code "0")) (eqb b (code "t")) (eqb b (code "n")) (eqb b (code "r")) (eqb b (code "\"")) (eqb b (code "'")) (eqb b (code "\\"))
   where
-    meant : (t1 t2 t3 t4 t5 t6 t7 : Bool) → ℕ
-    meant t1 t2 t3 t4 t5 t6 t7 = cond t1 0 (cond t2 (code "\t") (cond t3 (code "\n") (cond t4 (code "\r") (cond t5 (code "\"") (cond t6 (code "'") (cond t7 (code "\\") 128))))))
+    meant : (t1 t2 t3 t4 t5 t6 t7 : Bool) → Option ℕ
+    meant t1 t2 t3 t4 t5 t6 t7 = cond t1 (Some 0) (cond t2 (Some (code "\t")) (cond t3 (Some (code "\n")) (cond t4 (Some (code "\r")) (cond t5 (Some (code "\"")) (cond t6 (Some (code "'")) (cond t7 (Some (code "\\")) None))))))
 
     go : (t1 t2 t3 t4 t5 t6 t7 : Bool)
         → cond t1 (Char 0 1) (cond t2 (Char (code "\t") 1) (cond t3 (Char (code "\n") 1) (cond t4 (Char (code "\r") 1) (cond t5 (Char (code "\"") 1) (cond t6 (Char (code "'") 1) (cond t7 (Char (code "\\") 1) o))))))
-        ≡ cond (ltb (meant t1 t2 t3 t4 t5 t6 t7) 128) (Char (meant t1 t2 t3 t4 t5 t6 t7) 1) o
+        ≡ code_or (meant t1 t2 t3 t4 t5 t6 t7) o
     go true t2 t3 t4 t5 t6 t7 = refl
     go false true t3 t4 t5 t6 t7 = refl
     go false false true t4 t5 t6 t7 = refl
@@ -43,10 +47,15 @@ short_code b o = go (eqb b (code "0")) (eqb b (code "t")) (eqb b (code "n")) (eq
     go false false false false false false true = refl
     go false false false false false false false = refl
 
-pub no_letter : (b : ℕ) → (b ≡ code "0" → ⊥) → (b ≡ code "t" → ⊥) → (b ≡ code "n" → ⊥) → (b ≡ code "r" → ⊥) → (b ≡ code "\"" → ⊥) → (b ≡ code "'" → ⊥) → (b ≡ code "\\" → ⊥) → short_of b ≡ 128
+pub no_letter : (b : ℕ) → (b ≡ code "0" → ⊥) → (b ≡ code "t" → ⊥) → (b ≡ code "n" → ⊥) → (b ≡ code "r" → ⊥) → (b ≡ code "\"" → ⊥) → (b ≡ code "'" → ⊥) → (b ≡ code "\\" → ⊥) → short_of b ≡ None
 unfolding short_of
 no_letter b h1 h2 h3 h4 h5 h6 h7 =
     rw (ne_eqb b (code "0") h1, ne_eqb b (code "t") h2, ne_eqb b (code "n") h3, ne_eqb b (code "r") h4, ne_eqb b (code "\"") h5, ne_eqb b (code "'") h6, ne_eqb b (code "\\") h7)
+
+-- a short escape stands for an ASCII character
+pub short_ascii : (b c : ℕ) → short_of b ≡ Some c → c < 128
+unfolding short_of
+short_ascii b c e = grind arith
 
 -- the first byte behind the backslash decides
 abbrev by_letter : ℕ → List ℕ → Escape
@@ -59,8 +68,8 @@ unfolding escape_at
 letter s n b e = ap (λ (x : ℕ). by_letter x (drop n s)) (get_or-drop n s 0 0 ∙ ap (λ (k : ℕ). get_or s k 0) (add-zero n) ∙ e)
 
 module _ (s : List ℕ) (n : ℕ) where
-  pub short_at : short_of (get_or s n 0) < 128 → escape_at (drop n s) ≡ Char (short_of (get_or s n 0)) 1
-  short_at h = letter s n (get_or s n 0) refl ∙ short_code (get_or s n 0) _ ∙ rw (lt-ltb (short_of (get_or s n 0)) 128 h)
+  pub short_at : (c : ℕ) → short_of (get_or s n 0) ≡ Some c → escape_at (drop n s) ≡ Char c 1
+  short_at c e = letter s n (get_or s n 0) refl ∙ short_code (get_or s n 0) _ ∙ rw e
 
   pub byte_at : get_or s n 0 ≡ code "x" → escape_at (drop n s) ≡ byte_of (hex_digit (get_or s (n + 1) 0)) (hex_digit (get_or s (n + 2) 0))
   unfolding short_or
@@ -76,11 +85,11 @@ module _ (s : List ℕ) (n : ℕ) where
   pub brace : get_or s (n + 1) 0 ≡ code "{" → unicode_at (drop n s) ≡ braces named 2 (drop (n + 2) s)
   brace e = rw (get_or-drop, e) (rw drop-drop (sym (braces_named (drop (n + 2) s))))
 
-  pub no_escape : 128 ≤ short_of (get_or s n 0) → (get_or s n 0 ≡ code "x" → ⊥) → (get_or s n 0 ≡ code "u" → ⊥) → escape_at (drop n s) ≡ Verbatim 0
+  pub no_escape : short_of (get_or s n 0) ≡ None → (get_or s n 0 ≡ code "x" → ⊥) → (get_or s n 0 ≡ code "u" → ⊥) → escape_at (drop n s) ≡ Verbatim 0
   no_escape h x u =
       letter s n (get_or s n 0) refl
       ∙ short_code (get_or s n 0) _
-      ∙ rw (le-ltb (short_of (get_or s n 0)) 128 h, ne_eqb (get_or s n 0) (code "x") x, ne_eqb (get_or s n 0) (code "u") u)
+      ∙ rw (h, ne_eqb (get_or s n 0) (code "x") x, ne_eqb (get_or s n 0) (code "u") u)
 
   -- a backslash that ends the text
   pub lone : length s ≤ n → escape_at (drop n s) ≡ Verbatim 0
@@ -94,8 +103,8 @@ pub record Hex (b v : ℕ) : Type 0 where
   pub ascii : b < 0x80
 
 abbrev IsHex : ℕ → Option ℕ → Type 0
-IsHex b (some v) = Hex b v
-IsHex b none = Unit {0}
+IsHex b (Some v) = Hex b v
+IsHex b None = Unit {0}
 
 pub is_hex : (b : ℕ) → IsHex b (hex_digit b)
 unfolding hex_digit
@@ -113,7 +122,7 @@ is_hex b =
         let q = leb-true b hi (and_right (leb lo b) (leb b hi) e) in
         record { small = omega arith; some_byte = omega arith; ascii = omega arith }
 
-pub hex : (b v : ℕ) → hex_digit b ≡ some v → Hex b v
+pub hex : (b v : ℕ) → hex_digit b ≡ Some v → Hex b v
 hex b v e = rw e at (is_hex b)
 
 -- what an escape's text and its character are bound by
@@ -147,29 +156,29 @@ held_byte r = go (hex_digit (get_or r 1 0)) (hex_digit (get_or r 2 0)) (is_hex (
     two v h = (encoded v).two (omega arith)
 
     go : (o p : Option ℕ) → IsHex (get_or r 1 0) o → IsHex (get_or r 2 0) p → Held r (byte_of o p)
-    go (some v) (some w) h k =
+    go (Some v) (Some w) h k =
         let a = h.small in
         let b = k.small in
         (low_scalar (v * 16 + w) (omega arith), omega (arith, two (v * 16 + w) (omega arith)), byte_inside r 2 k.some_byte)
-    go (some v) none h k = let a = h.small in (low_scalar v (omega arith), omega (arith, two v (omega arith)), byte_inside r 1 h.some_byte)
-    go none p h k = zero-le
+    go (Some v) None h k = let a = h.small in (low_scalar v (omega arith), omega (arith, two v (omega arith)), byte_inside r 1 h.some_byte)
+    go None p h k = zero-le
 
 -- the braces end in the text
-braced_inside : (r body : List ℕ) → braced r ≡ some body → suc (length body) ≤ length r
+braced_inside : (r body : List ℕ) → braced r ≡ Some body → suc (length body) ≤ length r
 unfolding braced
 braced_inside [] body e = let z : ◌≡◌ {A = ℕ} 0 1 = cc in absurd (omega arith)
 braced_inside (b ∷ r) body e = go (eqb b (code "}")) (braced r) body (λ body e. braced_inside r body e) e
   where
-    go : (t : Bool) (o : Option (List ℕ)) (body : List ℕ) → ((body : List ℕ) → o ≡ some body → suc (length body) ≤ length r)
-        → cond t (some []) (onto_body b o) ≡ some body → suc (length body) ≤ suc (length r)
+    go : (t : Bool) (o : Option (List ℕ)) (body : List ℕ) → ((body : List ℕ) → o ≡ Some body → suc (length body) ≤ length r)
+        → cond t (Some []) (onto_body b o) ≡ Some body → suc (length body) ≤ suc (length r)
     go true o body ih e = let z : [] ≡ body = cc in rw (← z) (omega arith)
-    go false (some rest) body ih e = let z : b ∷ rest ≡ body = cc in rw (← z) (omega (arith, ih rest refl))
-    go false none body ih e = let z : ◌≡◌ {A = ℕ} 0 1 = cc in absurd (omega arith)
+    go false (Some rest) body ih e = let z : b ∷ rest ≡ body = cc in rw (← z) (omega (arith, ih rest refl))
+    go false None body ih e = let z : ◌≡◌ {A = ℕ} 0 1 = cc in absurd (omega arith)
 
 -- what is named is a scalar value
 abbrev IsScalar : Option ℕ → Type 0
-IsScalar (some v) = scalar v ≡ true
-IsScalar none = Unit {0}
+IsScalar (Some v) = scalar v ≡ true
+IsScalar None = Unit {0}
 
 named_scalar : (body : List ℕ) → IsScalar (named body)
 unfolding named
@@ -177,8 +186,8 @@ named_scalar [] = tt
 named_scalar (b ∷ r) = both_arms IsScalar (eqb b (code "_")) tt (go (radix16 (without_underscore (b ∷ r))))
   where
     go : (o : Option ℕ) → IsScalar (if_scalar o)
-    go (some v) = by_cond IsScalar (scalar v) _ _ (λ e. e) (λ _. tt)
-    go none = tt
+    go (Some v) = by_cond IsScalar (scalar v) _ _ (λ e. e) (λ _. tt)
+    go None = tt
 
 held_unicode : (r : List ℕ) → 1 < length r → Held r (unicode_of (drop 2 r) (braced (drop 2 r)))
 held_unicode r h = go (braced (drop 2 r)) (λ body e. braced_inside (drop 2 r) body e)
@@ -187,12 +196,12 @@ held_unicode r h = go (braced (drop 2 r)) (λ body e. braced_inside (drop 2 r) b
     ends body l = omega (arith, length-drop 2 r)
 
     as_char : (body : List ℕ) (o : Option ℕ) → IsScalar o → suc (length body) ≤ length (drop 2 r) → Held r (char_or o (2 + suc (length body)))
-    as_char body (some v) s l = (s, omega (arith, (encoded v).few), ends body l)
-    as_char body none s l = ends body l
+    as_char body (Some v) s l = (s, omega (arith, (encoded v).few), ends body l)
+    as_char body None s l = ends body l
 
-    go : (o : Option (List ℕ)) → ((body : List ℕ) → o ≡ some body → suc (length body) ≤ length (drop 2 r)) → Held r (unicode_of (drop 2 r) o)
-    go (some body) f = as_char body (named body) (named_scalar body) (f body refl)
-    go none f = omega (arith, length-drop 2 r)
+    go : (o : Option (List ℕ)) → ((body : List ℕ) → o ≡ Some body → suc (length body) ≤ length (drop 2 r)) → Held r (unicode_of (drop 2 r) o)
+    go (Some body) f = as_char body (named body) (named_scalar body) (f body refl)
+    go None f = omega (arith, length-drop 2 r)
 
 pub held : (r : List ℕ) → Held r (escape_at r)
 unfolding escape_at

@@ -3,7 +3,6 @@
 -- Assumes nothing.
 use mathlib.Core.Path.{◌≡◌, refl}
 use mathlib.Core.List.{List, [], ◌∷◌}
-use mathlib.Core.Option.{none, some}
 use Prim.Native.Nat.{ℕ}
 use Prim.Native.Char.{code}
 use Rattle.buffers.specs.Ascii.{ascii}
@@ -12,7 +11,8 @@ use Rattle.escapes.specs.Unescape.{hex_digit, digits_from, without_underscore, n
 use Rattle.escapes.specs.Walk.{plain_run, short_of}
 use Rattle.escapes.specs.Entry.{decoded, output_after}
 use Rattle.escapes.specs.Cedar.{unicode_from, literal_at, cedar_from, cedar}
-use Rattle.escapes.specs.declared.Decoded.TheVariants.{Written, Refused}
+use Rattle.format.specs.Refusals.{not_utf8, output_too_short}
+use Rattle.std.specs.Prelude.{Err, None, Ok, Some}
 
 -- 01, fact 1: `\u{4_1}` decodes to A
 pub fact_1 : unescape (ascii "\\u{4_1}") ≡ ascii "A"
@@ -35,24 +35,24 @@ unfolding unescape_from escape_at short_or braced named without_underscore digit
 fact_4 = refl
 
 -- the run before a backslash, and the letters of short escapes
-pub run_before : (plain_run (ascii "ab\\n") ≡ 2) × (short_of (code "n") ≡ code "\n") × (short_of (code "q") ≡ 128)
+pub run_before : (plain_run (ascii "ab\\n") ≡ 2) × (short_of (code "n") ≡ Some (code "\n")) × (short_of (code "q") ≡ None)
 unfolding plain_run short_of
 run_before = (refl, refl, refl)
 
 -- the entry point: `\n` into three bytes, into none, and a byte that is not UTF-8
 pub decoded_answers :
-    (decoded (ascii "\\n") 3 ≡ Written 1) × (output_after (ascii "\\n") (7 ∷ 8 ∷ 9 ∷ []) ≡ code "\n" ∷ 8 ∷ 9 ∷ []) × (decoded (ascii "\\n") 0 ≡ Refused 5) × (decoded (128 ∷ []) 3 ≡ Refused 3)
+    (decoded (ascii "\\n") 3 ≡ Ok 1) × (output_after (ascii "\\n") (7 ∷ 8 ∷ 9 ∷ []) ≡ code "\n" ∷ 8 ∷ 9 ∷ []) × (decoded (ascii "\\n") 0 ≡ Err output_too_short) × (decoded (128 ∷ []) 3 ≡ Err not_utf8)
 unfolding decoded utf8_from char_of unescape_from escape_at short_or braced named without_underscore digits_from hex_digit scalar encode
 decoded_answers = (refl, refl, refl, refl)
 
 -- Cedar accepts both, and decoding agrees: a _ behind a digit, and six digits
-pub cedar_accepts : (cedar (ascii "\\u{4_}") ≡ some (4 ∷ [])) × (cedar (ascii "\\u{000041}") ≡ some (ascii "A"))
+pub cedar_accepts : (cedar (ascii "\\u{4_}") ≡ Some (4 ∷ [])) × (cedar (ascii "\\u{000041}") ≡ Some (ascii "A"))
 unfolding cedar_from literal_at unicode_from unescape_from escape_at short_or braced named without_underscore digits_from hex_digit scalar encode
 cedar_accepts = (refl, refl)
 
 -- Cedar refuses s, and decoding gives out
 abbrev EscapeParts : List ℕ → List ℕ → Type 0
-EscapeParts s out = (cedar s ≡ none) × (unescape s ≡ out)
+EscapeParts s out = (cedar s ≡ None) × (unescape s ≡ out)
 
 -- a + before the digits
 pub plus : EscapeParts (ascii "\\u{+0}") (0 ∷ [])

@@ -18,9 +18,10 @@ use Rattle.buffers.proofs.Skipping.{skipped}
 use Rattle.chars.specs.Utf8.{encode}
 use Rattle.escapes.specs.Unescape.{escape_at, piece_at, stands_for, bytes_taken, unescape_from, unescape}
 use Rattle.escapes.specs.Walk.{plain_run, short_of}
+use Rattle.std.specs.Prelude.{Some}
 use Rattle.escapes.specs.declared.Escape.{Escape}
 use Rattle.escapes.specs.declared.Escape.TheVariants.{Char, Verbatim}
-use Rattle.escapes.proofs.Escapes.{Held, held, held_char, held_verbatim, short_at}
+use Rattle.escapes.proofs.Escapes.{Held, held, held_char, held_verbatim, short_at, short_ascii}
 use Rattle.chars.proofs.Writing.{encode_1}
 
 pub unescape_skip : (k : ℕ) (s : List ℕ) → unescape_from k s ≡ unescape (drop k s)
@@ -131,19 +132,16 @@ module _ (s : List ℕ) (i : ℕ) where
     char_ends v n f = let k = (held_char (drop (i + 1) s) v n f).2 in omega (arith, length-drop (i + 1) s)
 
     -- a short escape, by its code
-    short_here : (c : ℕ) → c ≡ short_of (get_or s (i + 1) 0) → c < 128 → escape_at (drop (i + 1) s) ≡ Char c 1
-    short_here c e l = let k : short_of (get_or s (i + 1) 0) < 128 = omega arith in short_at s (i + 1) k ∙ ap (λ (c : ℕ). Char c 1) (sym e)
-
-    pub short_piece : (c : ℕ) → c ≡ short_of (get_or s (i + 1) 0) → c < 128 → unescape (drop i s) ≡ (c ∷ []) ++ unescape (drop (i + 2) s)
-    short_piece c e l =
+    pub short_piece : (c : ℕ) → short_of (get_or s (i + 1) 0) ≡ Some c → unescape (drop i s) ≡ (c ∷ []) ++ unescape (drop (i + 2) s)
+    short_piece c e =
         let k : i + 1 + 1 ≡ i + 2 = omega arith in
-        char_stands_at c 1 (short_here c e l) ∙ ap₂ (λ (x : List ℕ) (n : ℕ). x ++ unescape (drop n s)) (encode_1 c l) k
+        char_stands_at c 1 (short_at s (i + 1) c e) ∙ ap₂ (λ (x : List ℕ) (n : ℕ). x ++ unescape (drop n s)) (encode_1 c (short_ascii _ c e)) k
 
-    pub short_ends : (c : ℕ) → c ≡ short_of (get_or s (i + 1) 0) → c < 128 → i + 2 ≤ length s
-    short_ends c e l = omega (arith, char_ends c 1 (short_here c e l))
+    pub short_ends : (c : ℕ) → short_of (get_or s (i + 1) 0) ≡ Some c → i + 2 ≤ length s
+    short_ends c e = omega (arith, char_ends c 1 (short_at s (i + 1) c e))
 
-    pub short_size : (c : ℕ) → c ≡ short_of (get_or s (i + 1) 0) → c < 128 → length (unescape (drop i s)) ≡ 1 + length (unescape (drop (i + 2) s))
-    short_size c e l = ap length (short_piece c e l) ∙ length-append (c ∷ []) (unescape (drop (i + 2) s))
+    pub short_size : (c : ℕ) → short_of (get_or s (i + 1) 0) ≡ Some c → length (unescape (drop i s)) ≡ 1 + length (unescape (drop (i + 2) s))
+    short_size c e = ap length (short_piece c e) ∙ length-append (c ∷ []) (unescape (drop (i + 2) s))
 
     pub char_size : (v n : ℕ) → escape_at (drop (i + 1) s) ≡ Char v n
         → length (unescape (drop i s)) ≡ length (encode v) + length (unescape (drop (i + 1 + n) s))

@@ -4,10 +4,10 @@
 -- line's end. Every other byte stands for itself.
 -- Assumes nothing.
 use Rattle.std.specs.Prelude.{cond, ◌&&◌, ◌||◌, List, [], ◌∷◌, ◌++◌, ℕ, zero, suc, ◌+◌, ◌*◌, leb, eqb, get_or, drop}
-use Rattle.std.proofs.Math.Option.{Option, none, some}
 use Prim.Native.Char.{code}
 use Rattle.chars.specs.Utf8.{scalar, encode}
 use Rattle.escapes.specs.Unescape.{hex_digit}
+use Rattle.std.specs.Prelude.{None, Option, Some}
 
 -- what a backslash begins: a character and how many bytes it takes behind the backslash, or an error
 pub data Literal : Type 0 where
@@ -16,13 +16,13 @@ pub data Literal : Type 0 where
 
 -- \x and two digits
 abbrev pub ascii_of : Option ℕ → Option ℕ → Literal
-ascii_of (some v) (some w) = cond (leb (v * 16 + w) 0x7F) (char (v * 16 + w) 3) wrong
-ascii_of (some v) none = wrong
-ascii_of none second = wrong
+ascii_of (Some v) (Some w) = cond (leb (v * 16 + w) 0x7F) (char (v * 16 + w) 3) wrong
+ascii_of (Some v) None = wrong
+ascii_of None second = wrong
 
 abbrev pub next_digit : Option ℕ → (ℕ → Literal) → Literal
-next_digit (some d) go = go d
-next_digit none go = wrong
+next_digit (Some d) go = go d
+next_digit None go = wrong
 
 -- \u{ and what follows, where `count` digits were read, which give v, and n bytes behind the backslash
 unfoldable pub unicode_from : ℕ → ℕ → ℕ → List ℕ → Literal
@@ -46,20 +46,20 @@ literal_at r =
     (cond (eqb (get_or r 0 0) (code "u") && eqb (get_or r 1 0) (code "{")) (unicode_from 0 0 2 (drop 2 r)) wrong))))))))
 
 abbrev pub before_rest : List ℕ → Option (List ℕ) → Option (List ℕ)
-before_rest x (some y) = some (x ++ y)
-before_rest x none = none
+before_rest x (Some y) = Some (x ++ y)
+before_rest x None = None
 
 abbrev pub literally : Literal → (ℕ → Option (List ℕ)) → Option (List ℕ)
 literally (char v n) rest = before_rest (encode v) (rest n)
-literally wrong rest = none
+literally wrong rest = None
 
--- what a literal's text stands for behind its first k bytes, which were read already; none where it is an error
+-- what a literal's text stands for behind its first k bytes, which were read already; None where it is an error
 unfoldable pub cedar_from : ℕ → List ℕ → Option (List ℕ)
-cedar_from k [] = some []
+cedar_from k [] = Some []
 cedar_from (suc k) (a ∷ r) = cedar_from k r
 cedar_from zero (a ∷ r) =
     cond (eqb a (code "\\")) (literally (literal_at r) (λ k. cedar_from k r))
-    (cond (eqb a (code "\"") || eqb a (code "\r")) none (before_rest (a ∷ []) (cedar_from 0 r)))
+    (cond (eqb a (code "\"") || eqb a (code "\r")) None (before_rest (a ∷ []) (cedar_from 0 r)))
 
 abbrev pub cedar : List ℕ → Option (List ℕ)
 cedar s = cedar_from 0 s

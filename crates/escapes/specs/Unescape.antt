@@ -2,38 +2,38 @@
 -- What is no escape stands for itself.
 -- Assumes nothing.
 use Rattle.std.specs.Prelude.{cond, ◌&&◌, List, [], ◌∷◌, ◌++◌, ℕ, zero, suc, ◌+◌, ◌-◌, ◌*◌, eqb, length, get_or, take, drop}
-use Rattle.std.proofs.Math.Option.{Option, none, some}
 use Prim.Native.Char.{code}
 use Rattle.chars.specs.Utf8.{scalar, encode}
 pub use Rattle.chars.specs.White.{within}
 use Rattle.escapes.specs.declared.Escape.{Escape}
 use Rattle.escapes.specs.declared.Escape.TheVariants.{Char, Verbatim}
+use Rattle.std.specs.Prelude.{None, Option, Some}
 
 -- the value of a hex digit, of either case
 unfoldable pub hex_digit : ℕ → Option ℕ
 hex_digit b =
-    cond (within (code "0") (code "9") b) (some (b - code "0"))
-    (cond (within (code "a") (code "f") b) (some (b - (code "a" - 10)))
-    (cond (within (code "A") (code "F") b) (some (b - (code "A" - 10))) none))
+    cond (within (code "0") (code "9") b) (Some (b - code "0"))
+    (cond (within (code "a") (code "f") b) (Some (b - (code "a" - 10)))
+    (cond (within (code "A") (code "F") b) (Some (b - (code "A" - 10))) None))
 
 -- go on with a value, where there is one
 abbrev pub digit_then : Option ℕ → (ℕ → Option ℕ) → Option ℕ
-digit_then (some v) f = f v
-digit_then none f = none
+digit_then (Some v) f = f v
+digit_then None f = None
 
 -- the number of hex digits, behind a number that was read
 unfoldable pub digits_from : ℕ → List ℕ → Option ℕ
-digits_from n [] = some n
+digits_from n [] = Some n
 digits_from n (b ∷ r) = digit_then (hex_digit b) (λ v. digits_from (n * 16 + v) r)
 
 -- one hex digit or more
 abbrev pub hex_number : List ℕ → Option ℕ
-hex_number [] = none
+hex_number [] = None
 hex_number (b ∷ r) = digits_from 0 (b ∷ r)
 
 -- as Rust's `u32::from_str_radix` of base 16 reads: an optional +, then hex digits
 abbrev pub radix16 : List ℕ → Option ℕ
-radix16 [] = none
+radix16 [] = None
 radix16 (b ∷ r) = cond (eqb b (code "+")) (hex_number r) (hex_number (b ∷ r))
 
 -- without _
@@ -43,43 +43,43 @@ without_underscore (b ∷ r) = cond (eqb b (code "_")) (without_underscore r) (b
 
 -- a surrogate, or a number past the last code point, names nothing
 abbrev pub if_scalar : Option ℕ → Option ℕ
-if_scalar (some v) = cond (scalar v) (some v) none
-if_scalar none = none
+if_scalar (Some v) = cond (scalar v) (Some v) None
+if_scalar None = None
 
 -- the scalar value that stands between the braces of \u{..}: no _ first
 unfoldable pub named : List ℕ → Option ℕ
-named [] = none
-named (b ∷ r) = cond (eqb b (code "_")) none (if_scalar (radix16 (without_underscore (b ∷ r))))
+named [] = None
+named (b ∷ r) = cond (eqb b (code "_")) None (if_scalar (radix16 (without_underscore (b ∷ r))))
 
 -- b before the bytes, where there are any
 abbrev pub onto_body : ℕ → Option (List ℕ) → Option (List ℕ)
-onto_body b (some body) = some (b ∷ body)
-onto_body b none = none
+onto_body b (Some body) = Some (b ∷ body)
+onto_body b None = None
 
 -- the bytes before the first }, or none where it stands nowhere
 unfoldable pub braced : List ℕ → Option (List ℕ)
-braced [] = none
-braced (b ∷ r) = cond (eqb b (code "}")) (some []) (onto_body b (braced r))
+braced [] = None
+braced (b ∷ r) = cond (eqb b (code "}")) (Some []) (onto_body b (braced r))
 
 -- the character that was named, or what is written
 abbrev pub char_or : Option ℕ → ℕ → Escape
-char_or (some v) n = Char v n
-char_or none n = Verbatim n
+char_or (Some v) n = Char v n
+char_or None n = Verbatim n
 
 -- \u{..} with r behind its {: closed, it is its character or stands whole; unclosed, all behind it stands
 abbrev pub unicode_of : List ℕ → Option (List ℕ) → Escape
-unicode_of r (some body) = char_or (named body) (2 + suc (length body))
-unicode_of r none = Verbatim (2 + length r)
+unicode_of r (Some body) = char_or (named body) (2 + suc (length body))
+unicode_of r None = Verbatim (2 + length r)
 
 -- \x behind its first digit v: a second one or none
 abbrev pub second_digit : ℕ → Option ℕ → Escape
-second_digit v (some w) = Char (v * 16 + w) 3
-second_digit v none = Char v 2
+second_digit v (Some w) = Char (v * 16 + w) 3
+second_digit v None = Char v 2
 
 -- \x with one hex digit or two; without one it is no escape
 abbrev pub byte_of : Option ℕ → Option ℕ → Escape
-byte_of (some v) second = second_digit v second
-byte_of none second = Verbatim 0
+byte_of (Some v) second = second_digit v second
+byte_of None second = Verbatim 0
 
 -- the short escapes \0 \t \n \r \" \' \\
 unfoldable pub short_or : ℕ → Escape → Escape

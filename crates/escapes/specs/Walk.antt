@@ -1,49 +1,45 @@
 -- Of inner functions alone: how the code walks a text. No rule of document 01 stands here: the laws that tie these to `Unescape`
 -- are in `proofs/Braces` (`braces_named`), `proofs/Escapes` (`short_code`) and `proofs/Unescaping` (`unescape_run`).
 -- Assumes nothing.
-use Rattle.std.specs.Prelude.{Bool, true, false, cond, List, [], ◌∷◌, ℕ, suc, ◌+◌, ltb, eqb, length, get_or, drop}
-use Rattle.std.proofs.Math.Option.{Option, none, some}
+use Rattle.std.specs.Prelude.{Bool, true, false, cond, List, [], ◌∷◌, ℕ, suc, ◌+◌, eqb, length, get_or, drop}
 use Prim.Native.Char.{code}
 use Rattle.escapes.specs.Unescape.{digits_from, without_underscore, if_scalar, braced, char_or, unicode_of}
 use Rattle.escapes.specs.declared.Escape.{Escape}
 use Rattle.escapes.specs.declared.Escape.TheVariants.{Verbatim}
+use Rattle.std.specs.Prelude.{None, Option, Some}
 
 -- how many bytes stand before the first backslash
 unfoldable pub plain_run : List ℕ → ℕ
 plain_run [] = 0
 plain_run (b ∷ r) = cond (eqb b (code "\\")) 0 (suc (plain_run r))
 
--- a hex digit's value, which is below 16; any other number says that there is none
-abbrev pub digit_or : ℕ → Option ℕ
-digit_or v = cond (ltb v 16) (some v) none
-
--- what the short escape with the letter b stands for; 128 where it is none
-unfoldable pub short_of : ℕ → ℕ
+-- what the short escape with the letter b stands for
+unfoldable pub short_of : ℕ → Option ℕ
 short_of b =
-    cond (eqb b (code "0")) 0
-    (cond (eqb b (code "t")) (code "\t")
-    (cond (eqb b (code "n")) (code "\n")
-    (cond (eqb b (code "r")) (code "\r")
-    (cond (eqb b (code "\"")) (code "\"")
-    (cond (eqb b (code "'")) (code "'")
-    (cond (eqb b (code "\\")) (code "\\") 128))))))
+    cond (eqb b (code "0")) (Some 0)
+    (cond (eqb b (code "t")) (Some (code "\t"))
+    (cond (eqb b (code "n")) (Some (code "\n"))
+    (cond (eqb b (code "r")) (Some (code "\r"))
+    (cond (eqb b (code "\"")) (Some (code "\""))
+    (cond (eqb b (code "'")) (Some (code "'"))
+    (cond (eqb b (code "\\")) (Some (code "\\")) None))))))
 
 -- What \u{..} comes to where n bytes behind the backslash were read, r follows, and `reads` says what the bytes before the } name.
 abbrev pub braces_of : (List ℕ → Option ℕ) → ℕ → List ℕ → Option (List ℕ) → Escape
-braces_of reads n r (some body) = char_or (reads body) (n + suc (length body))
-braces_of reads n r none = Verbatim (n + length r)
+braces_of reads n r (Some body) = char_or (reads body) (n + suc (length body))
+braces_of reads n r None = Verbatim (n + length r)
 
 unfoldable pub braces : (List ℕ → Option ℕ) → ℕ → List ℕ → Escape
 braces reads n r = braces_of reads n r (braced r)
 
 -- nothing is named any more
 abbrev pub unnamed : List ℕ → Option ℕ
-unnamed body = none
+unnamed body = None
 
 -- hex digits behind the number v, at least one where there was none yet
 abbrev pub more_digits : Bool → ℕ → List ℕ → Option ℕ
 more_digits true v body = digits_from v body
-more_digits false v [] = none
+more_digits false v [] = None
 more_digits false v (b ∷ r) = digits_from v (b ∷ r)
 
 -- the scalar value that these digits name, _ among them

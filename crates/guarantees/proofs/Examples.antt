@@ -2,7 +2,6 @@
 -- Assumes nothing.
 use mathlib.Core.Path.{◌≡◌, refl}
 use mathlib.Core.List.{List, [], ◌∷◌, ◌++◌}
-use mathlib.Core.Option.{none}
 use Prim.Native.Nat.{ℕ}
 use lib.ListN.{length}
 use Rattle.buffers.specs.Ascii.{ascii}
@@ -33,6 +32,7 @@ use Rattle.events.specs.Answer.{line_answer, read_line}
 use Rattle.logs.specs.Lines.{lines_of, marked, unmarked}
 use Rattle.guarantees.specs.Keys.{keys_in, entities_body, key_text_of}
 use Rattle.guarantees.specs.Lines.{log_lines, line_numbered, events_in}
+use Rattle.std.specs.Prelude.{None}
 
 -- `@0 entities(a::"":{})::""::k()` has one stored key, a::"": time, two that are absent, an array of one part, action, kind, two records,
 -- and then the entities
@@ -59,8 +59,8 @@ key_text_example = refl
 abbrev tight : Event
 tight = record {
   time = 0;
-  principal = none;
-  resource = none;
+  principal = None;
+  resource = None;
   head = record { namespace = [] ∷ []; action = []; kind = ascii "k" };
   logged = field [] (string []) no_field;
   context = no_field;

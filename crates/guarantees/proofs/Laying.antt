@@ -2,7 +2,6 @@
 -- Assumes nothing.
 use mathlib.Core.Path.{◌≡◌, refl, sym, ap, ◌∙◌}
 use mathlib.Core.List.{List, [], ◌∷◌, ◌++◌, append_assoc, append-nil}
-use mathlib.Core.Option.{Option, none, some}
 use Prim.Native.Nat.{ℕ, zero, suc, ◌+◌}
 use native.Mathlib.Nat.{zero-add, add_assoc}
 use native.Mathlib.Omega.{arith}
@@ -18,6 +17,7 @@ use Rattle.pack.proofs.Laid.{past_value, past_leaf, behind}
 use Rattle.heads.specs.Head.{Head, count_texts, append_namespace, append_head}
 use Rattle.heads.proofs.Texts.{kinds_texts, numbers_texts, joined_texts, namespace_closed, kinds_length, numbers_length, past_texts}
 use Rattle.events.specs.Event.{Event, append_if}
+use Rattle.std.specs.Prelude.{None, Option, Some}
 
 -- the node behind n values
 unfoldable pub past_all : ℕ → List ℕ → List ℕ → ℕ → ℕ
@@ -88,8 +88,8 @@ unfolding children
 text_walked x p = leaf_laid text_kind (text_number (length p.texts) (length x)) x p _ refl refl
 
 pub option_laid : (o : Option Value) (p : Pack) → Laid 1 p (append_if o p)
-option_laid (some v) p = value_laid v p
-option_laid none p = absent_laid p
+option_laid (Some v) p = value_laid v p
+option_laid None p = absent_laid p
 
 -- ---- an array of texts
 

@@ -21,12 +21,13 @@ use Rattle.events.specs.Answer.{Answer, event, blank, refused, line_answer, read
 use Rattle.events.proofs.Answers.{answer_event}
 use Rattle.events.proofs.Bounds.{line_small}
 use Rattle.lines.specs.Entry.{line_read_of, enough, sizes_of}
-use Rattle.lines.specs.declared.LineRead.{LineRead}
 use Rattle.guarantees.specs.Keys.{AcceptedLine, tables_of, Holds, written_key}
 use Rattle.guarantees.specs.Lines.{IsRead, ReadOrBlank}
 use Rattle.guarantees.specs.Calls.{ReadInto}
 use Rattle.guarantees.proofs.EntryReading.{type_clean, line_entered}
 use Rattle.guarantees.proofs.Standing.{tables_padded, keys_stand}
+use Rattle.std.specs.Prelude.{Err, None, Ok, Option, Result, Some}
+use Rattle.format.specs.declared.Refusal.{Refusal}
 
 -- ---- a line that is read
 
@@ -50,34 +51,34 @@ accepted_holds {s} {e} a rest = record {
 
 -- ---- a call
 
-event_answer : (a : Answer) (f : Front) → LineRead.Event f ≡ line_read_of a → (e : Event) × (a ≡ event e)
+event_answer : (a : Answer) (f : Front) → Ok (Some f) ≡ line_read_of a → (e : Event) × (a ≡ event e)
 event_answer (event e) f h = (e, refl)
 event_answer blank f h = let z : ◌≡◌ {A = ℕ} 0 1 = cc in absurd (omega arith)
 event_answer (refused n) f h = let z : ◌≡◌ {A = ℕ} 0 1 = cc in absurd (omega arith)
 
 -- tables that were too short are answered with no event
-long_enough : (b : Bool) (a : LineRead) (f : Front) → LineRead.Event f ≡ cond b a (LineRead.Refused table_too_short) → b ≡ true
+long_enough : (b : Bool) (a : Result (Option Front) Refusal) (f : Front) → Ok (Some f) ≡ cond b a (Err table_too_short) → b ≡ true
 long_enough true a f h = refl
 long_enough false a f h = let z : ◌≡◌ {A = ℕ} 0 1 = cc in absurd (omega arith)
 
 module _ {s : List ℕ} {p q : Pack} where
-  enough_lent : {f : Front} → ReadInto s p (LineRead.Event f) q → enough p.kinds p.numbers p.texts ≡ true
+  enough_lent : {f : Front} → ReadInto s p (Ok (Some f)) q → enough p.kinds p.numbers p.texts ≡ true
   enough_lent {f} w = long_enough _ (line_read_of (read_line s)) f w.answer
 
-  pub event_read : {f : Front} → ReadInto s p (LineRead.Event f) q → IsRead s
+  pub event_read : {f : Front} → ReadInto s p (Ok (Some f)) q → IsRead s
   event_read {f} w = event_answer (read_line s) f (rw (enough_lent w) at w.answer)
 
-  pub event_left_tables : {f : Front} {e : Event} → ReadInto s p (LineRead.Event f) q → read_line s ≡ event e → (rest : Pack) × (q ≡ tables_of e rest)
+  pub event_left_tables : {f : Front} {e : Event} → ReadInto s p (Ok (Some f)) q → read_line s ≡ event e → (rest : Pack) × (q ≡ tables_of e rest)
   event_left_tables {f} {e} w h =
       let b = enough_lent w in
       let past : Pack = record { kinds = drop nodes_used p.kinds; numbers = drop nodes_used p.numbers; texts = drop texts_used p.texts } in
       let o = tables_padded nodes_used texts_used e past in
       (o.0, pack_is _ _ (w.kinds ∙ rw (b, h)) (w.numbers ∙ rw (b, h)) (w.texts ∙ rw (b, h)) ∙ o.1)
 
-  pub tables_hold : {f : Front} {e : Event} → ReadInto s p (LineRead.Event f) q → read_line s ≡ event e → Holds q e.entities
+  pub tables_hold : {f : Front} {e : Event} → ReadInto s p (Ok (Some f)) q → read_line s ≡ event e → Holds q e.entities
   tables_hold {f} {e} w h = rw (event_left_tables w h).1 (accepted_holds (read_accepted s h) (event_left_tables w h).0)
 
-  pub taken_line : {r : LineRead} → ReadOrBlank s → enough p.kinds p.numbers p.texts ≡ true → ReadInto s p r q
-      → (r ≡ LineRead.Blank) ⊎ ((f : Front) × (r ≡ LineRead.Event f))
+  pub taken_line : {r : Result (Option Front) Refusal} → ReadOrBlank s → enough p.kinds p.numbers p.texts ≡ true → ReadInto s p r q
+      → (r ≡ (Ok None)) ⊎ ((f : Front) × (r ≡ Ok (Some f)))
   taken_line (inl h) b w = inl (w.answer ∙ rw (b, h))
   taken_line (inr (e, h)) b w = inr (sizes_of (append_event e empty_pack), w.answer ∙ rw (b, h))

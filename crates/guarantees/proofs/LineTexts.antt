@@ -15,7 +15,6 @@ use borrow.Author.Tests.{eqb-true, le-leb}
 use Rattle.buffers.proofs.Choice.{by_cond, and_left, and_right}
 use Rattle.format.specs.Limits.{text_limit}
 use Rattle.chars.specs.Utf8.{low, high, char_of, char_at, utf8_from, utf8}
-use Rattle.chars.specs.declared.Step.TheVariants.{Char}
 use Rattle.chars.proofs.Reading.{char_onward, ascii_char}
 use Rattle.chars.proofs.Boundary.{starts_low, utf8_cut}
 use Rattle.events.specs.Answer.{line_answer, read_line}
@@ -24,6 +23,7 @@ use Rattle.logs.specs.Post.{line_end}
 use Rattle.logs.proofs.Cutting.{lines_none, lines_first}
 use Rattle.logs.proofs.Feeds.{line_end_within, feed_there}
 use Rattle.guarantees.specs.Lines.{InLimits, log_lines}
+use Rattle.std.specs.Prelude.{Some}
 
 -- ---- a text, cut at it
 
@@ -84,7 +84,7 @@ pieces (suc k) s h u = lines_pieces s u (λ r l v. pieces k r (omega arith) v)
 
 -- ---- behind the mark, which is a character
 
-mark_char : (a : ℕ) (r : List ℕ) → marked (a ∷ r) ≡ true → char_at (a ∷ r) ≡ Char 0xFEFF 3
+mark_char : (a : ℕ) (r : List ℕ) → marked (a ∷ r) ≡ true → char_at (a ∷ r) ≡ Some (0xFEFF, 3)
 unfolding marked char_of low high
 mark_char a r m =
     let n = and_right (eqb a 0xEF) _ m in

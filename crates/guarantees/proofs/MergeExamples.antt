@@ -3,6 +3,7 @@
 use mathlib.Core.Path.{◌≡◌, refl}
 use mathlib.Core.List.{List, [], ◌∷◌}
 use Prim.Native.Nat.{ℕ}
+use Rattle.format.specs.Refusals.{output_too_short, no_at, times_fall_in_first, times_fall_in_second}
 use Rattle.buffers.specs.Ascii.{ascii}
 use Rattle.buffers.specs.Same.{same}
 use Rattle.chars.specs.Utf8.{char_of, utf8_from}
@@ -25,8 +26,8 @@ use Rattle.logs.specs.Judge.{judge_log}
 use Rattle.logs.specs.Events.{gather}
 use Rattle.event_lines.specs.Time.{fall_from}
 use Rattle.event_lines.specs.Laid.{laid}
-use Rattle.merging.specs.Merge.{merged_lines, merged_text, merge_logs}
-use Rattle.merging.specs.declared.Merged.TheVariants.{Written, Refused}
+use Rattle.merging.specs.Merge.{of_neither, merged_lines, merged_text, merge_logs}
+use Rattle.std.specs.Prelude.{Err, Ok}
 
 -- two lines of which the second is earlier, and a blank line between them
 abbrev falling : List ℕ
@@ -43,12 +44,12 @@ merged = (refl, refl, refl, refl)
 
 -- 45 and 46 with the line that is earlier than the one before it; a log's own refusal stands before both, and 5 comes last; equal times
 -- are no fall
-answers : (merge_logs falling [] 0 ≡ Refused 45 1 3)
-    × (merge_logs (ascii "@2 ::\"\"::k()") falling 0 ≡ Refused 46 2 3)
-    × (merge_logs falling (ascii "\nx") 0 ≡ Refused 10 2 2)
-    × (merge_logs (ascii "@2 ::\"\"::k()") (ascii "@-1 ::\"\"::k()") 26 ≡ Refused 5 0 0)
-    × (merge_logs (ascii "@2 ::\"\"::k()") (ascii "@-1 ::\"\"::k()") 27 ≡ Written 27)
-    × (merge_logs (ascii "@2 ::\"\"::k()\n@2 ::\"\"::k()") [] 26 ≡ Written 26)
-    × (merge_logs [] (ascii " \n") 0 ≡ Written 0)
+answers : (merge_logs falling [] 0 ≡ Err (record { refusal = times_fall_in_first; log = 1; line = 3 }))
+    × (merge_logs (ascii "@2 ::\"\"::k()") falling 0 ≡ Err (record { refusal = times_fall_in_second; log = 2; line = 3 }))
+    × (merge_logs falling (ascii "\nx") 0 ≡ Err (record { refusal = no_at; log = 2; line = 2 }))
+    × (merge_logs (ascii "@2 ::\"\"::k()") (ascii "@-1 ::\"\"::k()") 26 ≡ Err (of_neither output_too_short))
+    × (merge_logs (ascii "@2 ::\"\"::k()") (ascii "@-1 ::\"\"::k()") 27 ≡ Ok 27)
+    × (merge_logs (ascii "@2 ::\"\"::k()\n@2 ::\"\"::k()") [] 26 ≡ Ok 26)
+    × (merge_logs [] (ascii " \n") 0 ≡ Ok 0)
 unfolding merge_logs judge_log utf8_from walk_from fall_from merged_text merged_lines laid gather lines_of unmarked marked onto line_answer parse_line parse_time white_from white_at white wide_white char_of trim_from trim_end i64_of many value parse_scope parse_entities_envelope parse_context begins same parse_group byte_from last_from parse_event_head quote_open_from opens_id quote_from unescape_from kind_in double_colon names_from parse_args parts full split_top_level split_from parse_fields field_named sort_by insert_by precedes
 answers = (refl, refl, refl, refl, refl, refl, refl)

@@ -11,6 +11,7 @@ use native.Mathlib.Omega.{arith}
 use lib.Dec.{T, ltb}
 use lib.Signed.{lt_z, ◌≤ℤ◌, lt_z_yes, lt_z_no, clash_ℤ}
 use borrow.Author.Tests.{ltb-true, ltb-false, lt-ltb, le-ltb}
+use Rattle.std.specs.Prelude.{None}
 use Rattle.numbers.specs.Twos.{untwos}
 use Rattle.sorting.specs.Order.{precedes, Each, Ascends, of_key}
 use Rattle.sorting.specs.Merge.{merge_by}
@@ -103,7 +104,7 @@ rises_ascends [] small h = tt
 rises_ascends (l ∷ ls) small h = (each_both SmallRank _ _ (λ k s. not_first l k small.0 s) ls small.1 h.0, rises_ascends ls small.1 h.1)
 
 -- of lines that are read one after the other, no time falls just where they rise
-pub lines_rise : (xs : List (List ℕ)) → (fall_from 1 0 xs ≡ 0) ↔ Rises (gather line_answer xs)
+pub lines_rise : (xs : List (List ℕ)) → (fall_from 1 0 xs ≡ None) ↔ Rises (gather line_answer xs)
 lines_rise xs = (
   (λ h. ascends_rises (gather line_answer xs) (gathered_small xs) (lines_ascend xs h)),
   (λ h. lines_no_fall xs (rises_ascends (gather line_answer xs) (gathered_small xs) h)),
@@ -123,7 +124,7 @@ module _ (f s : List ℕ) where
   unfolding merged_lines
   merged_stable k = sort_stable time_key k (event_lines f ++ event_lines s) ∙ of_key_append time_key k (event_lines f) (event_lines s)
 
-  module _ (g : fall_in f ≡ 0) (h : fall_in s ≡ 0) where
+  module _ (g : fall_in f ≡ None) (h : fall_in s ≡ None) where
     merged_runs : merged_lines f s ≡ merge_by time_key (event_lines f) (event_lines s)
     unfolding merged_lines
     merged_runs = rw (sort_fixed time_key (event_lines f) (lines_ascend _ g), sort_fixed time_key (event_lines s) (lines_ascend _ h)) at (sym (merge_sorted time_key (event_lines f) (event_lines s)))

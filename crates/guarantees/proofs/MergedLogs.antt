@@ -17,13 +17,10 @@ use Rattle.lines.specs.Entry.{enough}
 use Rattle.logs.specs.Lines.{lines_of, marked, unmarked, walk_from, walk, behind}
 use Rattle.logs.specs.Judge.{count_line, judge_log}
 use Rattle.logs.specs.Events.{EventLine, gather, event_lines}
-use Rattle.logs.specs.declared.Judged.TheVariants as Judged
 use Rattle.logs.proofs.Judging.{accepted_means}
 use Rattle.event_lines.specs.Time.{time_key, fall_from, fall_in}
 use Rattle.event_lines.specs.Laid.{laid, line_texts}
-use Rattle.merging.specs.Merge.{merged_lines, merged_text, merge_logs, MergeWhole}
-use Rattle.merging.specs.declared.Merged.{Merged}
-use Rattle.merging.specs.declared.Merged.TheVariants.{Written, Refused}
+use Rattle.merging.specs.Merge.{of_neither, merged_lines, merged_text, merge_logs, MergeWhole}
 use Rattle.event_lines.proofs.Falls.{lines_no_fall}
 use Rattle.merging.proofs.Cases.{by_cases}
 use Rattle.guarantees.specs.Lines.{InLimits, log_lines}
@@ -31,16 +28,18 @@ use Rattle.guarantees.specs.Merging.{Mergeable, ReadsAs, Stays}
 use Rattle.guarantees.proofs.Judged.{accepted_within, log_walked}
 use Rattle.guarantees.proofs.MergeOrder.{each_merged, merged_ascends}
 use Rattle.guarantees.proofs.LaidLines.{Sound, log_sound, laid_encoded, laid_lines, laid_answers, laid_events, walk_counts, walk_counted}
+use Rattle.std.specs.Prelude.{Err, None, Ok, Result}
+use Rattle.merging.specs.declared.MergeRefusal.{MergeRefusal}
 
 -- ---- the answer
 
 -- bytes are written only where the tables are long enough
-answer_written : (b : Bool) (r : Merged) (k : ℕ) → Written k ≡ cond b r (Refused table_too_short 0 0) → r ≡ Written k
+answer_written : (b : Bool) (r : Result ℕ MergeRefusal) (k : ℕ) → Ok k ≡ cond b r (Err (of_neither table_too_short)) → r ≡ Ok k
 answer_written true r k h = sym h
 answer_written false r k h = let z : ◌≡◌ {A = ℕ} 0 1 = cc in absurd (omega arith)
 
 module _ (f s : List ℕ) (room : ℕ) where
-  pub mergeable_written : {m n : ℕ} → Mergeable f s m n → length (merged_text f s) ≤ room → merge_logs f s room ≡ Written (length (merged_text f s))
+  pub mergeable_written : {m n : ℕ} → Mergeable f s m n → length (merged_text f s) ≤ room → merge_logs f s room ≡ Ok (length (merged_text f s))
   unfolding merge_logs
   mergeable_written h fits =
       rw (h.first_accepted, h.second_accepted, h.first_rises, h.second_rises, le-leb (length (merged_text f s)) text_limit h.short, le-leb (length (merged_text f s)) room fits)
@@ -48,10 +47,10 @@ module _ (f s : List ℕ) (room : ℕ) where
   abbrev Means : ℕ → Type 0
   Means k = (m : ℕ) × (n : ℕ) × Mergeable f s m n × (k ≡ length (merged_text f s)) × (k ≤ room)
 
-  pub written_mergeable : (k : ℕ) → merge_logs f s room ≡ Written k → Means k
-  written_mergeable k = by_cases (λ (r : Merged). r ≡ Written k → Means k) f s room (record {
-    first_log_refused = λ number line a h. not_written h;
-    second_refused = λ number line b h. not_written h;
+  pub written_mergeable : (k : ℕ) → merge_logs f s room ≡ Ok k → Means k
+  written_mergeable k = by_cases (λ (r : Result ℕ MergeRefusal). r ≡ Ok k → Means k) f s room (record {
+    first_log_refused = λ r a h. not_written h;
+    second_refused = λ r b h. not_written h;
     first_falls = λ m line a x h. not_written h;
     second_falls = λ n line b y h. not_written h;
     too_long = not_written;
@@ -61,21 +60,21 @@ module _ (f s : List ℕ) (room : ℕ) where
         (m, n, record { first_accepted = a; second_accepted = b; first_rises = x; second_rises = y; short = short }, sym e, omega (arith, fits));
   })
     where
-      not_written : {number log line : ℕ} → Refused number log line ≡ Written k → Means k
+      not_written : {r : MergeRefusal} → Err r ≡ Ok k → Means k
       not_written h = let z : ◌≡◌ {A = ℕ} 0 1 = cc in absurd (omega arith)
 
 -- the bytes that a call wrote
-pub call_merged : (f s k n t out : List ℕ) (count : ℕ) (k' n' t' out' : List ℕ) → MergeWhole f s k n t out (Written count) k' n' t' out'
+pub call_merged : (f s k n t out : List ℕ) (count : ℕ) (k' n' t' out' : List ℕ) → MergeWhole f s k n t out (Ok count) k' n' t' out'
     → (i : ℕ) × (j : ℕ) × Mergeable f s i j × (take count out' ≡ merged_text f s)
 call_merged f s k n t out count k' n' t' out' w =
-    let a : merge_logs f s (length out) ≡ Written count = answer_written (enough k n t) (merge_logs f s (length out)) count w.answer in
+    let a : merge_logs f s (length out) ≡ Ok count = answer_written (enough k n t) (merge_logs f s (length out)) count w.answer in
     let m = written_mergeable f s (length out) count a in
     (m.0, m.1, m.2, rw w.output (take_at (merged_text f s) (drop count out) count (sym m.3)))
 
 -- ---- the merged log, read
 
 -- a log's count is how many lines it gathers
-events_counted : (s : List ℕ) (n : ℕ) → judge_log s ≡ Judged.Accepted n → n ≡ length (event_lines s)
+events_counted : (s : List ℕ) (n : ℕ) → judge_log s ≡ Ok n → n ≡ length (event_lines s)
 events_counted s n e = omega (arith, walk_counted 1 0 n (log_lines s) (accepted_means s n e).2)
 
 module _ {f s : List ℕ} {m n : ℕ} (h : Mergeable f s m n) where
@@ -118,17 +117,17 @@ no_events : event_lines [] ≡ []
 unfolding gather lines_of unmarked marked
 no_events = refl
 
-empty_accepted : judge_log [] ≡ Judged.Accepted 0
+empty_accepted : judge_log [] ≡ Ok 0
 unfolding judge_log utf8_from walk_from lines_of unmarked marked
 empty_accepted = refl
 
-empty_rises : fall_in [] ≡ 0
+empty_rises : fall_in [] ≡ None
 unfolding fall_from lines_of unmarked marked
 empty_rises = refl
 
 -- a log that ascends and is its own event lines, laid down
-module _ (t : List ℕ) (n : ℕ) (accepted : judge_log t ≡ Judged.Accepted n) (ascends : Ascends time_key (event_lines t)) (own : laid (line_texts (event_lines t)) ≡ t) where
-  never_falls : fall_in t ≡ 0
+module _ (t : List ℕ) (n : ℕ) (accepted : judge_log t ≡ Ok n) (ascends : Ascends time_key (event_lines t)) (own : laid (line_texts (event_lines t)) ≡ t) where
+  never_falls : fall_in t ≡ None
   never_falls = lines_no_fall _ ascends
 
   with_empty : merged_text t [] ≡ t

@@ -15,20 +15,20 @@ use Rattle.events.specs.Answer.{line_answer}
 use Rattle.logs.specs.Events.{gather, event_lines}
 use Rattle.event_lines.specs.Time.{rank, time_key, fall_in}
 use Rattle.merging.specs.Merge.{merged_lines, merged_text, merge_logs, MergeWhole}
-use Rattle.merging.specs.declared.Merged.TheVariants.{Written}
 use Rattle.guarantees.specs.Lines.{log_lines}
 use Rattle.guarantees.specs.Merging.{Mergeable, Rises, Subsequence, ReadsAs, Stays}
 use Rattle.guarantees.proofs.MergeOrder.{rank_order, lines_rise, merged_rises, merged_stable, merged_keeps}
 use Rattle.guarantees.proofs.FirstFall.{first_fall}
 use Rattle.guarantees.proofs.MergedLogs.{call_merged, mergeable_written, written_mergeable, merged_reads, merged_stays}
+use Rattle.std.specs.Prelude.{None, Ok, Some}
 
 -- 1. Two logs are merged where neither is refused, the times of neither fall, and the result is short enough for a log and for the output:
 -- then the answer is the length of the merged text,
-pub written_when : {f s : List ℕ} {m n : ℕ} → Mergeable f s m n → (room : ℕ) → length (merged_text f s) ≤ room → merge_logs f s room ≡ Written (length (merged_text f s))
+pub written_when : {f s : List ℕ} {m n : ℕ} → Mergeable f s m n → (room : ℕ) → length (merged_text f s) ≤ room → merge_logs f s room ≡ Ok (length (merged_text f s))
 written_when {f} {s} h room fits = mergeable_written f s room h fits
 
 -- and only then.
-pub written_means : (f s : List ℕ) (room k : ℕ) → merge_logs f s room ≡ Written k
+pub written_means : (f s : List ℕ) (room k : ℕ) → merge_logs f s room ≡ Ok k
     → (m : ℕ) × (n : ℕ) × Mergeable f s m n × (k ≡ length (merged_text f s)) × (k ≤ room)
 written_means f s room k e = written_mergeable f s room k e
 
@@ -42,12 +42,12 @@ pub key_order : (a b : ℕ) → a < 2 ^ 64 → b < 2 ^ 64 → ltb (rank a) (rank
 key_order = rank_order
 
 -- so a log's times fall nowhere just where they rise as integers;
-pub no_fall_iff : (s : List ℕ) → (fall_in s ≡ 0) ↔ Rises (event_lines s)
+pub no_fall_iff : (s : List ℕ) → (fall_in s ≡ None) ↔ Rises (event_lines s)
 no_fall_iff s = lines_rise (log_lines s)
 
 -- where they fall, the line that is named is the first with which they do not rise;
-pub falls_at : (s : List ℕ) (k : ℕ) → fall_in s ≡ suc k
-    → Rises (gather line_answer (take k (log_lines s))) × (Rises (gather line_answer (take (suc k) (log_lines s))) → ⊥)
+pub falls_at : (s : List ℕ) (line : ℕ) → fall_in s ≡ Some line
+    → (k : ℕ) × (line ≡ suc k) × Rises (gather line_answer (take k (log_lines s))) × (Rises (gather line_answer (take (suc k) (log_lines s))) → ⊥)
 falls_at = first_fall
 
 -- and those of the result rise, whatever the logs are.
@@ -59,7 +59,7 @@ pub first_first : (f s k : List ℕ) → of_key time_key k (merged_lines f s) �
 first_first = merged_stable
 
 -- and where the times of neither log fall, all lines of each stand in their own order.
-pub own_order : (f s : List ℕ) → fall_in f ≡ 0 → fall_in s ≡ 0 → Subsequence (event_lines f) (merged_lines f s) × Subsequence (event_lines s) (merged_lines f s)
+pub own_order : (f s : List ℕ) → fall_in f ≡ None → fall_in s ≡ None → Subsequence (event_lines f) (merged_lines f s) × Subsequence (event_lines s) (merged_lines f s)
 own_order = merged_keeps
 
 -- 5. The result is a log: its lines are the merged lines, each read as its event, and it is accepted with the events of both.
@@ -72,6 +72,6 @@ merges_again = merged_stays
 
 -- 7. All of this holds of what a call left: where it answered that so many bytes were written, these are the merged text of logs that are
 -- merged so.
-pub merged_by_call : (f s k n t out : List ℕ) (count : ℕ) (k' n' t' out' : List ℕ) → MergeWhole f s k n t out (Written count) k' n' t' out'
+pub merged_by_call : (f s k n t out : List ℕ) (count : ℕ) (k' n' t' out' : List ℕ) → MergeWhole f s k n t out (Ok count) k' n' t' out'
     → (i : ℕ) × (j : ℕ) × Mergeable f s i j × (take count out' ≡ merged_text f s)
 merged_by_call = call_merged

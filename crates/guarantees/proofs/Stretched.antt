@@ -16,8 +16,6 @@ use Rattle.events.specs.Answer.{Answer, event, blank, refused, line_answer}
 use Rattle.logs.specs.Judge.{judge_log}
 use Rattle.logs.specs.Cursor.{lines_at, first_line, next_cursor}
 use Rattle.logs.specs.declared.Cursor.{Cursor}
-use Rattle.logs.specs.declared.Judged.{Judged}
-use Rattle.logs.specs.declared.Judged.TheVariants.{Accepted, Refused}
 use Rattle.logs.proofs.Cutting.{first_lines, lines_behind}
 use Rattle.logs.proofs.Judging.{judge_too_long}
 use Rattle.log_listing.specs.Night.{line_text, event_in, events_from, count_text, refusal_text, night_text, night_listing}
@@ -27,6 +25,8 @@ use Rattle.log_listing.specs.declared.Place.TheVariants.{Start, Line}
 use Rattle.log_listing.proofs.Pieces.{onward}
 use Rattle.guarantees.proofs.Agreement.{accepted_iff}
 use Rattle.guarantees.specs.Stretches.{Call, after_call, Run, wrote}
+use Rattle.std.specs.Prelude.{Err, Ok, Result}
+use Rattle.logs.specs.declared.LineRefusal.{LineRefusal}
 
 -- ---- one call
 
@@ -80,16 +80,16 @@ module _ (s : List ℕ) (short : length s ≤ text_limit) where
       go (x ∷ xs) h on = inside c cs at k n few r x xs h on
 
 module _ (s : List ℕ) where
-  run_judged : (j : Judged) → judge_log s ≡ j → (c : Call) (cs : List Call)
+  run_judged : (j : Result ℕ LineRefusal) → judge_log s ≡ j → (c : Call) (cs : List Call)
       → StretchWhole (first_piece s j) c.lent c.answer c.output → after_call c.answer (λ p. Run s p cs) (cs ≡ []) → wrote (c ∷ cs) ≡ night_text s j
   unfolding wrote
-  run_judged (Accepted n) e c cs w r =
+  run_judged (Ok n) e c cs w r =
       let on : Run s (Line (first_line s) 1 n) cs = rw w.answer at r in
       let rest = run_lines s ((accepted_iff s n).0 e).0.short cs (first_line s) 1 n (omega arith) on in
-      rw (text_of (first_piece s (Accepted n)) c w, rest, first_lines s)
-  run_judged (Refused x l) e c cs w r =
+      rw (text_of (first_piece s (Ok n)) c w, rest, first_lines s)
+  run_judged (Err refusal) e c cs w r =
       let nothing : cs ≡ [] = rw w.answer at r in
-      rw (text_of (first_piece s (Refused x l)) c w, nothing) (append-nil (refusal_text x l))
+      rw (text_of (first_piece s (Err (record { refusal = refusal.refusal; line = refusal.line }))) c w, nothing) (append-nil (refusal_text refusal.refusal refusal.line))
 
   pub run_lists : (cs : List Call) → Run s Start cs → wrote cs ≡ night_listing s
   unfolding Run stretch_at night_listing

@@ -11,14 +11,13 @@ use lib.ListN.{length, drop}
 use Rattle.buffers.proofs.Choice.{by_cond, and_left}
 use Rattle.chars.specs.Utf8.{char_at, behind_char, utf8_from, utf8}
 use Rattle.chars.specs.White.{white, width_of, white_at, or_past, trim_from, trim_start, trim_end, trim}
-use Rattle.chars.specs.declared.Step.{Step}
-use Rattle.chars.specs.declared.Step.TheVariants.{Char, Bad}
 use Rattle.chars.proofs.Boundary.{utf8_append}
 use Rattle.chars.proofs.Trimming.{blank_starts, trim_end_split, trim_part}
 use Rattle.cuts.specs.Split.{onto}
 use Rattle.sorting.specs.Order.{Each}
 use Rattle.sorting.proofs.EachLaws.{each_take, each_drop}
 use Rattle.logs.specs.Lines.{lines_of}
+use Rattle.std.specs.Prelude.{None, Option, Some}
 
 -- ---- a text that is UTF-8 is so when it is trimmed
 
@@ -28,11 +27,11 @@ utf8_trim_from k [] h = refl
 utf8_trim_from (suc k) (a ∷ r) h = utf8_trim_from k r h
 utf8_trim_from zero (a ∷ r) h = go (char_at (a ∷ r)) h (λ k. utf8_trim_from k r)
   where
-    go : (t : Step) → behind_char t (λ k. utf8_from k r) ≡ true → ((k : ℕ) → utf8_from k r ≡ true → utf8 (trim_from k r) ≡ true)
+    go : (t : Option (ℕ × ℕ)) → behind_char t (λ k. utf8_from k r) ≡ true → ((k : ℕ) → utf8_from k r ≡ true → utf8 (trim_from k r) ≡ true)
         → utf8 (or_past (width_of t) (a ∷ r) (λ n. trim_from n r)) ≡ true
-    go (Char c zero) e ih = by_cond (λ (w : ℕ). utf8 (or_past w (a ∷ r) (λ n. trim_from n r)) ≡ true) (white c) 0 0 (λ _. h) (λ _. h)
-    go (Char c (suc n)) e ih = by_cond (λ (w : ℕ). utf8 (or_past w (a ∷ r) (λ n. trim_from n r)) ≡ true) (white c) (suc n) 0 (λ _. ih n (let z : suc n - 1 ≡ n = omega arith in rw z at e)) (λ _. h)
-    go Bad e ih = h
+    go (Some (c, zero)) e ih = by_cond (λ (w : ℕ). utf8 (or_past w (a ∷ r) (λ n. trim_from n r)) ≡ true) (white c) 0 0 (λ _. h) (λ _. h)
+    go (Some (c, (suc n))) e ih = by_cond (λ (w : ℕ). utf8 (or_past w (a ∷ r) (λ n. trim_from n r)) ≡ true) (white c) (suc n) 0 (λ _. ih n (let z : suc n - 1 ≡ n = omega arith in rw z at e)) (λ _. h)
+    go None e ih = h
 
 utf8_trim_end : (s : List ℕ) → utf8 s ≡ true → utf8 (trim_end s) ≡ true
 utf8_trim_end s h =

@@ -6,6 +6,7 @@ use mathlib.Core.Logic.{inl, inr, ◌↔◌}
 use Prim.Native.Nat.{ℕ, zero, suc, ◌+◌, ◌-◌, ◌<◌}
 use native.Mathlib.Omega.{arith}
 use lib.ListN.{length, get_or}
+use Rattle.format.specs.declared.Refusal.{Refusal}
 use Rattle.events.specs.Answer.{Answer, event, blank, refused, line_answer, read_line}
 use Rattle.logs.specs.Lines.{Walked, behind, stopped, onward, walk_from}
 use Rattle.logs.specs.Judge.{counted, count_line}
@@ -14,7 +15,7 @@ use Rattle.log_listing.specs.Night.{event_in}
 
 -- ---- one line is not both
 
-never_refused : (x : List ℕ) (n : ℕ) → read_line x ≡ refused n → ReadOrBlank x → ⊥
+never_refused : (x : List ℕ) (n : Refusal) → read_line x ≡ refused n → ReadOrBlank x → ⊥
 never_refused x n r (inl b) = let z : ◌≡◌ {A = ℕ} 0 1 = cc in absurd (omega arith)
 never_refused x n r (inr (e, b)) = let z : ◌≡◌ {A = ℕ} 0 1 = cc in absurd (omega arith)
 
@@ -24,7 +25,7 @@ pub record LinesPassed (n : ℕ) (xs : List (List ℕ)) (m : ℕ) : Type 0 where
   pub each : (i : ℕ) → i < length xs → ReadOrBlank (get_or xs i [])
   pub count : m ≡ n + events_in xs
 
-pub record Halted (k : ℕ) (xs : List (List ℕ)) (x line : ℕ) : Type 0 where
+pub record Halted (k : ℕ) (xs : List (List ℕ)) (x : Refusal) (line : ℕ) : Type 0 where
   pub place : ℕ
   pub is : line ≡ k + place
   pub inside : place < length xs
@@ -92,10 +93,10 @@ module _ (xs : List (List ℕ)) where
   )
 
   -- lines before the first refused one are not refused
-  not_before : {x line : ℕ} → FirstRefused xs line x → (i : ℕ) → suc i < line → ReadOrBlank (get_or xs i [])
+  not_before : {x : Refusal} {line : ℕ} → FirstRefused xs line x → (i : ℕ) → suc i < line → ReadOrBlank (get_or xs i [])
   not_before f i h = let e : suc i - 1 ≡ i = omega arith in rw e at (f.before (suc i) (omega arith) h)
 
-  halted_first : {x line : ℕ} → Halted 1 xs x line → FirstRefused xs line x
+  halted_first : {x : Refusal} {line : ℕ} → Halted 1 xs x line → FirstRefused xs line x
   halted_first {x} {line} o =
       let i : line - 1 ≡ o.place = omega (arith, o.is) in
       record {
@@ -105,7 +106,7 @@ module _ (xs : List (List ℕ)) where
       }
 
   -- there is one first refused line
-  module _ {x y line at : ℕ} (o : Halted 1 xs y at) (f : FirstRefused xs line x) where
+  module _ {x y : Refusal} {line at : ℕ} (o : Halted 1 xs y at) (f : FirstRefused xs line x) where
     same_place : line - 1 ≡ o.place
     same_place =
         let less : (o.place < line - 1) → ⊥ = λ h. never_refused _ y o.here (not_before f o.place (omega arith)) in
@@ -118,7 +119,7 @@ module _ (xs : List (List ℕ)) where
     same_refusal : y ≡ x
     same_refusal = let r : refused y ≡ refused x = sym o.here ∙ ap (λ (i : ℕ). read_line (get_or xs i [])) (sym same_place) ∙ f.here in cc
 
-  pub stopped_iff : (w : Walked ℕ) (x line : ℕ) → Ended 1 0 xs w → (w ≡ stopped x line) ↔ FirstRefused xs line x
+  pub stopped_iff : (w : Walked ℕ) (x : Refusal) (line : ℕ) → Ended 1 0 xs w → (w ≡ stopped x line) ↔ FirstRefused xs line x
   stopped_iff (behind m) x line o = (
     (λ e. let z : ◌≡◌ {A = ℕ} 0 1 = cc in absurd (omega arith)),
     (λ f. absurd (never_refused _ x f.here (from_one o.each line f.numbered))),

@@ -7,8 +7,6 @@ use Rattle.format.specs.Limits.{levels}
 use Rattle.format.specs.Outcome.{Outcome, ok, refused}
 use Rattle.chars.specs.White.{white_at}
 use Rattle.cuts.specs.Scan.{top_level_char, matching_paren}
-use Rattle.cuts.specs.declared.Found.{Found}
-use Rattle.cuts.specs.declared.Found.TheVariants.{At, Nothing}
 use Rattle.keys.specs.Escape.{pinned, entity_uid}
 use Rattle.pack.specs.Value.{entity}
 use Rattle.pack.specs.Pack.{Pack, empty_pack}
@@ -20,6 +18,7 @@ use Rattle.entities.specs.Entries.{Entries, no_entry, entry, count_entries, stor
 use Rattle.entities.specs.Parse.{Key, before_record, key_text}
 use Rattle.events.specs.Event.{Event, append_event}
 use Rattle.events.specs.Line.{Behind, begins, entities_word, parse_time, parse_scope, parse_line}
+use Rattle.std.specs.Prelude.{None, Option, Some}
 
 -- ---- in the tables: document 01, "The pack"
 
@@ -89,9 +88,9 @@ module _ {A : Type 0} where
   rest_behind (ok b) = b.rest
   rest_behind (refused e) = []
 
-abbrev pub body_up_to : Found → List ℕ → List ℕ
-body_up_to (At e) s = take e s
-body_up_to Nothing s = []
+abbrev pub body_up_to : Option ℕ → List ℕ → List ℕ
+body_up_to (Some e) s = take e s
+body_up_to None s = []
 
 -- the body of the entities envelope behind time and scope; where the envelope is absent, the empty text
 unfoldable pub entities_body : List ℕ → List ℕ
@@ -101,9 +100,9 @@ entities_body s =
     cond (begins entities_word t) (body_up_to (matching_paren body) body) []
 
 -- a part's key text stands before the colon before the record
-abbrev pub key_text_before : List ℕ → Found → List ℕ
-key_text_before x (At b) = key_text (before_record x b)
-key_text_before x Nothing = []
+abbrev pub key_text_before : List ℕ → Option ℕ → List ℕ
+key_text_before x (Some b) = key_text (before_record x b)
+key_text_before x None = []
 
 unfoldable pub key_text_of : List ℕ → List ℕ
 key_text_of x = key_text_before x (top_level_char (code "{") x)

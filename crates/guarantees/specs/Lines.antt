@@ -1,5 +1,6 @@
 -- The words of "judging and reading agree": the lines of a log, and what reading each of them alone answers. Total on all lists.
 -- Assumes nothing.
+use Rattle.format.specs.declared.Refusal.{Refusal}
 use Rattle.std.specs.Prelude.{◌≡◌, true, List, [], ◌∷◌, ◌⊎◌, ℕ, ◌+◌, ◌-◌, ◌≤◌, ◌<◌, length, get_or}
 use Rattle.format.specs.Limits.{text_limit}
 use Rattle.chars.specs.Utf8.{utf8}
@@ -43,7 +44,7 @@ events_in [] = 0
 events_in (x ∷ xs) = event_in (read_line x) + events_in xs
 
 -- the line of this number is refused by x, and none before it is
-pub record FirstRefused (xs : List (List ℕ)) (line x : ℕ) : Type 0 where
+pub record FirstRefused (xs : List (List ℕ)) (line : ℕ) (x : Refusal) : Type 0 where
   pub numbered : Numbered line xs
   pub here : read_line (line_numbered line xs) ≡ refused x
   pub before : (n : ℕ) → 1 ≤ n → n < line → ReadOrBlank (line_numbered n xs)

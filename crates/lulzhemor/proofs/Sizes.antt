@@ -13,42 +13,36 @@ use lib.ListN.{length, length-append}
 use Rattle.buffers.proofs.Choice.{by_cond, both_arms, or_none_left, or_none_right}
 use Rattle.format.specs.Limits.{text_limit, line_limit}
 use Rattle.format.specs.Refusals.{not_utf8}
+use Rattle.format.proofs.Numbers.{number_same, number_small}
 use Rattle.chars.specs.Utf8.{utf8}
 use Rattle.cuts.specs.Split.{onto, cut_places}
 use Rattle.cuts.specs.Body.{cut_body}
-use Rattle.cuts.specs.declared.Cut.{Cut}
-use Rattle.cuts.specs.declared.Cut.TheVariants as cut
 use Rattle.cuts.proofs.SplitLaws.{cut_places_le}
 use Rattle.escapes.specs.Unescape.{unescape}
 use Rattle.escapes.specs.Entry.{decoded}
-use Rattle.escapes.specs.declared.Decoded.{Decoded}
-use Rattle.escapes.specs.declared.Decoded.TheVariants as decoding
 use Rattle.escapes.proofs.Unescaping.{unescape_length}
 use Rattle.keys.specs.Escape.{pinned, entity_uid}
 use Rattle.keys.specs.Entry.{spell_key}
-use Rattle.keys.specs.declared.Spelled.{Spelled}
-use Rattle.keys.specs.declared.Spelled.TheVariants as spelling
 use Rattle.keys.proofs.Lengths.{escape_length}
 use Rattle.events.specs.Event.{Event}
 use Rattle.events.specs.Answer.{Answer, event, blank, line_answer, read_line}
 use Rattle.lines.specs.Entry.{enough}
 use Rattle.logs.specs.Lines.{lines_of, unmarked, Walked, behind, stopped, onward, walk_from}
-use Rattle.logs.specs.Judge.{counted, count_line, judged_by, judge_log}
-use Rattle.logs.specs.declared.Judged.{Judged}
-use Rattle.logs.specs.declared.Judged.TheVariants as judging
+use Rattle.logs.specs.Judge.{of_text, counted, count_line, judged_by, judge_log}
 use Rattle.event_lines.proofs.Extent.{unmarked_within}
 use Rattle.listing.specs.Lines.{event_line, list_sheet, list_event}
 use Rattle.listing.specs.Entry.{list_answer}
-use Rattle.listing.specs.declared.Listed.{Listed}
-use Rattle.listing.specs.declared.Listed.TheVariants as listing
 use Rattle.listing.proofs.Longest.{longest, ListsWithin, listing_short}
-use Rattle.lulzhemor.specs.Answer.{refused_answer, of_cut, of_decoded, of_spelled, of_judged, judge_answer, of_listed, line_listed}
+use Rattle.lulzhemor.specs.Answer.{refused_from, counted_answer, of_judged, judge_answer, of_listed, line_listed}
+use Rattle.std.specs.Prelude.{Err, None, Ok, Option, Result, Some}
+use Rattle.logs.specs.declared.LineRefusal.{LineRefusal}
+use Rattle.format.specs.declared.Refusal.{Refusal}
 
 -- ---- a log's count, and a refusal's line
 
-abbrev pub SmallJudged : Judged → Type 0
-SmallJudged (judging.Accepted n) = n ≤ text_limit
-SmallJudged (judging.Refused n line) = line ≤ text_limit + 1
+abbrev pub SmallJudged : Result ℕ LineRefusal → Type 0
+SmallJudged (Ok n) = n ≤ text_limit
+SmallJudged (Err refusal) = refusal.line ≤ text_limit + 1
 
 abbrev WalkWithin : ℕ → ℕ → Walked ℕ → Type 0
 WalkWithin count m (behind n) = n ≤ count
@@ -88,7 +82,7 @@ walked_small (stopped e line) h = h
 pub log_lines_few : (s : List ℕ) → length s ≤ text_limit → length (lines_of (unmarked s)) ≤ text_limit
 log_lines_few s l = omega (arith, l, lines_few (unmarked s), unmarked_within s)
 
-judge_text_small : (s : List ℕ) → length s ≤ text_limit → SmallJudged (cond (utf8 s) (judged_by (walk_from count_line 1 0 (lines_of (unmarked s)))) (judging.Refused not_utf8 0))
+judge_text_small : (s : List ℕ) → length s ≤ text_limit → SmallJudged (cond (utf8 s) (judged_by (walk_from count_line 1 0 (lines_of (unmarked s)))) (Err (of_text not_utf8)))
 judge_text_small s l =
     let few = log_lines_few s l in
     both_arms SmallJudged (utf8 s)
@@ -105,9 +99,9 @@ judge_small s k n t = both_arms SmallJudged (enough k n t) (judge_log_small s) (
 
 -- ---- what was written: a count of places or bytes
 
-abbrev pub SmallCut : Cut → Type 0
-SmallCut (cut.Places n) = n ≤ line_limit
-SmallCut (cut.Refused n) = Unit {0}
+abbrev pub SmallCut : Result ℕ Refusal → Type 0
+SmallCut (Ok n) = n ≤ line_limit
+SmallCut (Err n) = Unit {0}
 
 -- no more places than bytes
 pub cut_small : (s : List ℕ) (room : ℕ) → SmallCut (cut_body s room)
@@ -118,9 +112,9 @@ cut_small s room =
     (by_cond SmallCut (ltb line_limit (length s)) _ _ (λ h. tt)
     (λ h. both_arms SmallCut (ltb room (length (cut_places s))) tt (omega (arith, ltb-false line_limit (length s) h, cut_places_le s)))))
 
-abbrev pub SmallDecoded : Decoded → Type 0
-SmallDecoded (decoding.Written n) = n ≤ text_limit
-SmallDecoded (decoding.Refused n) = Unit {0}
+abbrev pub SmallDecoded : Result ℕ Refusal → Type 0
+SmallDecoded (Ok n) = n ≤ text_limit
+SmallDecoded (Err n) = Unit {0}
 
 -- decoding never lengthens
 pub decode_small : (s : List ℕ) (room : ℕ) → SmallDecoded (decoded s room)
@@ -131,9 +125,9 @@ decode_small s room =
     (both_arms SmallDecoded (leb (length (unescape s)) room) (omega (arith, leb-true (length s) text_limit h, unescape_length s)) tt) tt)
     (λ h. tt)
 
-abbrev pub SmallSpelled : Spelled → Type 0
-SmallSpelled (spelling.Written n) = n ≤ line_limit + 4 + 6 * line_limit
-SmallSpelled (spelling.Refused n) = Unit {0}
+abbrev pub SmallSpelled : Result ℕ Refusal → Type 0
+SmallSpelled (Ok n) = n ≤ line_limit + 4 + 6 * line_limit
+SmallSpelled (Err n) = Unit {0}
 
 -- a key is its type, four bytes around the escaped id, and at most six for each byte of the id
 key_short : (ty id : List ℕ) → length (entity_uid pinned ty id) ≤ length ty + 4 + 6 * length id
@@ -151,10 +145,10 @@ spell_small ty id room =
     (λ h. both_arms SmallSpelled (ltb room (length (entity_uid pinned ty id))) tt
     (omega (arith, ltb-false line_limit (length ty) (or_none_left t i h), ltb-false line_limit (length id) (or_none_right t i h), key_short ty id)))))
 
-abbrev pub SmallListed : Listed → Type 0
-SmallListed (listing.Written n) = (n ≤ longest) × (1 ≤ n)
-SmallListed listing.Blank = Unit {0}
-SmallListed (listing.Refused n) = Unit {0}
+abbrev pub SmallListed : Result (Option ℕ) Refusal → Type 0
+SmallListed (Ok (Some n)) = (n ≤ longest) × (1 ≤ n)
+SmallListed (Ok None) = Unit {0}
+SmallListed (Err n) = Unit {0}
 
 -- a listing begins with the word `event`
 listing_long : (number : ℕ) (e : Event) → 1 ≤ length (list_event number e)
@@ -172,34 +166,34 @@ list_small s number k n t out = both_arms SmallListed (enough k n t) (answer_lis
 
 -- ---- taking a number apart
 
--- a refusal's number and line, where the number is a byte
-pub refusal_apart : (n line m other : ℕ) → n < 256 → m < 256 → of_judged (judging.Refused n line) ≡ of_judged (judging.Refused m other) → (n ≡ m) × (line ≡ other)
-refusal_apart n line m other a b h = (omega (arith, a, b, h), omega (arith, a, b, h))
+-- a refusal and its line
+pub refusal_apart : (e f : Refusal) (line other : ℕ) → of_judged (Err (record { refusal = e; line = line })) ≡ of_judged (Err (record { refusal = f; line = other })) → (e ≡ f) × (line ≡ other)
+refusal_apart e f line other h = (number_same e f (omega (arith, number_small e, number_small f, h)), omega (arith, number_small e, number_small f, h))
 
 -- ---- no success is as large as a refusal
 
 -- the places that cut a body
-pub cut_below : (s : List ℕ) (room n : ℕ) → cut_body s room ≡ cut.Places n → of_cut (cut.Places n) < refused_answer 0
+pub cut_below : (s : List ℕ) (room n : ℕ) → cut_body s room ≡ Ok n → counted_answer (Ok n) < refused_from
 cut_below s room n e = omega (arith, subst SmallCut e (cut_small s room))
 
 -- the bytes that a text stands for
-pub decode_below : (s : List ℕ) (room n : ℕ) → decoded s room ≡ decoding.Written n → of_decoded (decoding.Written n) < refused_answer 0
+pub decode_below : (s : List ℕ) (room n : ℕ) → decoded s room ≡ Ok n → counted_answer (Ok n) < refused_from
 decode_below s room n e = omega (arith, subst SmallDecoded e (decode_small s room))
 
 -- the bytes of a key
-pub spell_below : (ty id : List ℕ) (room n : ℕ) → spell_key ty id room ≡ spelling.Written n → of_spelled (spelling.Written n) < refused_answer 0
+pub spell_below : (ty id : List ℕ) (room n : ℕ) → spell_key ty id room ≡ Ok n → counted_answer (Ok n) < refused_from
 spell_below ty id room n e = omega (arith, subst SmallSpelled e (spell_small ty id room))
 
 -- the events of a log
-pub count_below : (s k n t : List ℕ) (count : ℕ) → judge_answer s k n t ≡ judging.Accepted count → of_judged (judging.Accepted count) < refused_answer 0
+pub count_below : (s k n t : List ℕ) (count : ℕ) → judge_answer s k n t ≡ Ok count → of_judged (Ok count) < refused_from
 count_below s k n t count e = omega (arith, subst SmallJudged e (judge_small s k n t))
 
 -- the bytes of a listing
-pub list_below : (s : List ℕ) (number : ℕ) (k n t out : List ℕ) (count : ℕ) → line_listed s number k n t out ≡ listing.Written count
-    → of_listed (listing.Written count) < refused_answer 0
+pub list_below : (s : List ℕ) (number : ℕ) (k n t out : List ℕ) (count : ℕ) → line_listed s number k n t out ≡ Ok (Some count)
+    → of_listed (Ok (Some count)) < refused_from
 list_below s number k n t out count e = omega (arith, (subst SmallListed e (list_small s number k n t out)).0)
 
 -- ---- no event lists in 0 bytes, the number of a blank line
-pub listing_some : (s : List ℕ) (number : ℕ) (k n t out : List ℕ) (count : ℕ) → line_listed s number k n t out ≡ listing.Written count
-    → 0 < of_listed (listing.Written count)
+pub listing_some : (s : List ℕ) (number : ℕ) (k n t out : List ℕ) (count : ℕ) → line_listed s number k n t out ≡ Ok (Some count)
+    → 0 < of_listed (Ok (Some count))
 listing_some s number k n t out count e = omega (arith, (subst SmallListed e (list_small s number k n t out)).1)

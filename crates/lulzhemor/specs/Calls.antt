@@ -10,18 +10,18 @@ use Rattle.logs.specs.Judge as Logs
 use Rattle.merging.specs.Merge as Merging
 use Rattle.merging.specs.Merge.{merge_answer}
 use Rattle.listing.specs.Entry as Listing
-use Rattle.lulzhemor.specs.Answer.{of_cut, of_decoded, of_spelled, of_read, sizes_after, read_answer, of_judged, judge_answer, of_merged, of_listed, line_listed}
+use Rattle.lulzhemor.specs.Answer.{counted_answer, of_read, sizes_after, read_answer, of_judged, judge_answer, of_merged, of_listed, line_listed}
 
 pub record CutCall (body out : List ℕ) (r : ℕ) (out' : List ℕ) : Type 0 where
-  pub answer : r ≡ of_cut (cut_body body (length out))
+  pub answer : r ≡ counted_answer (cut_body body (length out))
   pub output : out' ≡ cut_output (cut_body body (length out)) body out
 
 pub record DecodeCall (text out : List ℕ) (r : ℕ) (out' : List ℕ) : Type 0 where
-  pub answer : r ≡ of_decoded (decoded text (length out))
+  pub answer : r ≡ counted_answer (decoded text (length out))
   pub output : out' ≡ output_after text out
 
 pub record SpellCall (ty id out : List ℕ) (r : ℕ) (out' : List ℕ) : Type 0 where
-  pub answer : r ≡ of_spelled (spell_key ty id (length out))
+  pub answer : r ≡ counted_answer (spell_key ty id (length out))
   pub output : out' ≡ spell_output (spell_key ty id (length out)) ty id out
 
 -- ---- with tables k, n and t

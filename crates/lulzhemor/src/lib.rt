@@ -5,25 +5,38 @@
 
 ghost use Rattle.std.specs.Prelude.{◌≡◌};
 ghost use Rattle.chars.specs.Utf8.{utf8};
+ghost use Rattle.lulzhemor.specs.Answer.{refused_answer, counted_answer};
 ghost use Rattle.lulzhemor.specs.Calls.{CutCall, DecodeCall, SpellCall, ReadCall, JudgeCall, MergeCall, ListCall};
 
-use cuts::Cut;
-use escapes::Decoded;
-use format::Log;
-use keys::Spelled;
-use lines::LineRead;
-use listing::Listed;
-use logs::Judged;
-use merging::Merged;
+use format::{Log, Refusal};
 
 // Refusal n is this number and n: no success is as large.
 const REFUSED: u64 = 4_294_967_296;
-// A line has an event.
+// A line has an event, or is blank.
 const EVENT: u64 = 1;
+
+const BLANK: u64 = 0;
 // The line of a refusal counts so many times: its number is less.
 const PER_LINE: u64 = 256;
 // The log of a refusal, where two are merged, counts 2^26 times: what its line counts is less.
 const PER_LOG: u64 = 67_108_864;
+
+// A refusal's answer where it speaks of no line.
+fn refused(refusal: Refusal) -> u64
+    ensures { result ≡ refused_answer refusal }
+{
+    REFUSED + (u8::from(refusal) as u64)
+}
+
+// What a count or a refusal answers.
+fn counted(r: Result<usize, Refusal>) -> u64
+    ensures { result ≡ counted_answer r }
+{
+    match r {
+        Ok(count) => count as u64,
+        Err(refusal) => refused(refusal),
+    }
+}
 
 // Is the text UTF-8?
 #[unsafe(no_mangle)]
@@ -38,10 +51,7 @@ pub extern "C" fn lulzhemor_is_utf8(s: &[u8]) -> bool
 pub extern "C" fn lulzhemor_cut_body(out: &mut [u64], body: &[u8]) -> u64
     ensures { CutCall body.now out.old result out.new }
 {
-    match cuts::cut_body(out, body) {
-        Cut::Places(count) => count as u64,
-        Cut::Refused(number) => REFUSED + (number as u64),
-    }
+    counted(cuts::cut_body(out, body))
 }
 
 // Decodes the escapes of a text: how many bytes it stands for, which are the output's first; or a refusal, the output unchanged.
@@ -49,10 +59,7 @@ pub extern "C" fn lulzhemor_cut_body(out: &mut [u64], body: &[u8]) -> u64
 pub extern "C" fn lulzhemor_decode(out: &mut [u8], text: &[u8]) -> u64
     ensures { DecodeCall text.now out.old result out.new }
 {
-    match escapes::decode(out, text) {
-        Decoded::Written(count) => count as u64,
-        Decoded::Refused(number) => REFUSED + (number as u64),
-    }
+    counted(escapes::decode(out, text))
 }
 
 // Spells the key of a type text and a decoded id: how many bytes it has, which are the output's first; or a refusal, the output unchanged.
@@ -60,13 +67,10 @@ pub extern "C" fn lulzhemor_decode(out: &mut [u8], text: &[u8]) -> u64
 pub extern "C" fn lulzhemor_spell_key(out: &mut [u8], ty: &[u8], id: &[u8]) -> u64
     ensures { SpellCall ty.now id.now out.old result out.new }
 {
-    match keys::spell_key(out, ty, id) {
-        Spelled::Written(count) => count as u64,
-        Spelled::Refused(number) => REFUSED + (number as u64),
-    }
+    counted(keys::spell_key(out, ty, id))
 }
 
-// Reads one line into a pack: EVENT where it has one, whose nodes and text bytes are then the two sizes; 0 where the line is blank; or a
+// Reads one line into a pack: EVENT where it has one, whose nodes and text bytes are then the two sizes; BLANK where it is blank; or a
 // refusal. Only an event changes the sizes.
 #[unsafe(no_mangle)]
 pub extern "C" fn lulzhemor_read_line(
@@ -80,12 +84,12 @@ pub extern "C" fn lulzhemor_read_line(
         result kinds.new numbers.new texts.new sizes.new }
 {
     match lines::read_line(kinds, numbers, texts, line) {
-        LineRead::Event(front) => {
+        Ok(Some(front)) => {
             *sizes = [front.nodes as u64, front.texts as u64];
             EVENT
         }
-        LineRead::Blank => 0,
-        LineRead::Refused(number) => REFUSED + (number as u64),
+        Ok(None) => BLANK,
+        Err(refusal) => refused(refusal),
     }
 }
 
@@ -101,8 +105,8 @@ pub extern "C" fn lulzhemor_judge(
         result kinds.new numbers.new texts.new }
 {
     match logs::judge(kinds, numbers, texts, log) {
-        Judged::Accepted(count) => count as u64,
-        Judged::Refused(number, line) => REFUSED + (number as u64) + PER_LINE * (line as u64),
+        Ok(events) => events as u64,
+        Err(r) => refused(r.refusal) + PER_LINE * (r.line as u64),
     }
 }
 
@@ -121,11 +125,8 @@ pub extern "C" fn lulzhemor_merge(
         result kinds.new numbers.new texts.new out.new }
 {
     match merging::merge(kinds, numbers, texts, out, first, second) {
-        Merged::Written(count) => count as u64,
-        Merged::Refused(number, log, line) => REFUSED
-            + (number as u64)
-            + PER_LINE * (line as u64)
-            + PER_LOG * (log as u64),
+        Ok(size) => size as u64,
+        Err(r) => refused(r.refusal) + PER_LINE * (r.line as u64) + PER_LOG * (r.log as u64),
     }
 }
 
@@ -144,8 +145,8 @@ pub extern "C" fn lulzhemor_list_line(
         result kinds.new numbers.new texts.new out.new }
 {
     match listing::list_line(kinds, numbers, texts, out, line, number) {
-        Listed::Written(count) => count as u64,
-        Listed::Blank => 0,
-        Listed::Refused(refusal) => REFUSED + (refusal as u64),
+        Ok(Some(count)) => count as u64,
+        Ok(None) => 0,
+        Err(refusal) => refused(refusal),
     }
 }

@@ -3,12 +3,12 @@
 use Rattle.std.proofs.Common.{◌≡◌, ℕ, Bool, true, false, ◌&&◌, ◌||◌, eqb, List, [], ◌∷◌, sym, refl, ap, ◌∙◌, ⊎_elim, true≢false, ne_eqb}
 use Prim.Native.Char.{code}
 use Rattle.buffers.proofs.Choice.{decide, and_left, and_right, and_false, or_cases, or_false}
-use Rattle.numbers.specs.declared.Int.TheVariants.{Is}
 use Rattle.numbers.specs.Grammar.{at_end, matches, one_byte, opt, many, one_or_more}
 use Rattle.numbers.specs.Digits.{is_digit, is_sign}
 use Rattle.numbers.specs.Integer.{integer_rule, i64_of}
 use Rattle.numbers.specs.Decimal.{has_dot, is_decimal}
 use Rattle.numbers.proofs.IntegerLaws.{integral}
+use Rattle.std.specs.Prelude.{Some}
 
 -- no text that passes has a dot
 abbrev pub Dotless : (List ℕ → Bool) → Type 0
@@ -55,5 +55,5 @@ pub integer_no_decimal : (s : List ℕ) → matches integer_rule s ≡ true → 
 unfolding is_decimal
 integer_no_decimal s e = rw (signed_dotless s e)
 
-pub i64_no_decimal : (s : List ℕ) (n : ℕ) → i64_of s ≡ Is n → is_decimal s ≡ false
+pub i64_no_decimal : (s : List ℕ) (n : ℕ) → i64_of s ≡ Some n → is_decimal s ≡ false
 i64_no_decimal s n e = integer_no_decimal s (integral s n e).text

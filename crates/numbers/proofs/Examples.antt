@@ -2,12 +2,12 @@
 -- Assumes nothing.
 use Rattle.std.proofs.Common.{◌≡◌, true, false, [], ◌∷◌, map, replicate, negsuc, refl}
 use Rattle.buffers.specs.Ascii.{ascii}
-use Rattle.numbers.specs.declared.Int.TheVariants.{Is, No}
 use Rattle.numbers.specs.Grammar.{matches, many}
 use Rattle.numbers.specs.Digits.{value}
 use Rattle.numbers.specs.Twos.{twos, untwos}
 use Rattle.numbers.specs.Integer.{i64_of}
 use Rattle.numbers.specs.Decimal.{float, has_dot, is_decimal}
+use Rattle.std.specs.Prelude.{None, Some}
 
 decimals : map is_decimal (ascii "1." ∷ ascii "1.e1" ∷ ascii "+.5" ∷ ascii "-1.5E-3" ∷ ascii ".5" ∷ []) ≡ replicate 5 true
 unfolding is_decimal has_dot many
@@ -32,7 +32,7 @@ integers : map i64_of
     ∷ ascii "9223372036854775807"
     ∷ ascii "-9223372036854775808"
     ∷ [])
-    ≡ Is 5 ∷ Is 0 ∷ Is 18446744073709551615 ∷ Is 5 ∷ Is 9223372036854775807 ∷ Is 9223372036854775808 ∷ []
+    ≡ Some 5 ∷ Some 0 ∷ Some 18446744073709551615 ∷ Some 5 ∷ Some 9223372036854775807 ∷ Some 9223372036854775808 ∷ []
 unfolding i64_of many value
 integers = refl
 
@@ -46,7 +46,7 @@ no_integers : map i64_of
     ∷ ascii "9223372036854775808"
     ∷ ascii "-9223372036854775809"
     ∷ ascii "99999999999999999999999999"
-    ∷ []) ≡ replicate 9 No
+    ∷ []) ≡ replicate 9 None
 unfolding i64_of many value
 no_integers = refl
 

@@ -1,6 +1,6 @@
 -- How the tables say a character is written, by the tests that lead there.
 -- Assumes nothing.
-use mathlib.Core.Path.{◌≡◌}
+use mathlib.Core.Path.{◌≡◌, sym, ◌∙◌}
 use mathlib.Core.Logic.{inl, inr}
 use mathlib.Core.Bool.{Bool, true, false}
 use mathlib.Core.List.{List}
@@ -43,6 +43,10 @@ later_itself c e = rw e
 pub lent_both : (anywhere first : List ℕ) → TablesLent anywhere first → (length anywhere ≡ 0 → ⊥) → (anywhere ≡ escaped_anywhere) × (first ≡ first_only)
 lent_both anywhere first (inl e) h = absurd (h e)
 lent_both anywhere first (inr t) h = t
+
+-- a test of a lent table is one of the table itself
+pub lent_test : {xs ys : List ℕ} {r b : Bool} (c : ℕ) → xs ≡ ys → r ≡ member xs c → r ≡ b → member ys c ≡ b
+lent_test c e m f = rw (← e) (sym m ∙ f)
 
 pub table_filled : 0 < length escaped_anywhere
 unfolding escaped_anywhere

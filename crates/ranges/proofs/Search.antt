@@ -1,4 +1,4 @@
--- The binary search's invariant, and what the place that it finds says of membership.
+-- What brackets a place in a table that goes up, and what the place that a search finds says of membership.
 -- Assumes nothing.
 use mathlib.Core.Path.{◌≡◌, refl, ap, ◌∙◌}
 use mathlib.Core.Logic.{◌⊎◌, inl, inr}
@@ -7,9 +7,11 @@ use mathlib.Core.List.{List, [], ◌∷◌}
 use Prim.Native.Nat.{ℕ, zero, suc, ◌+◌, ◌%◌, ◌≤◌, ◌<◌, zero-le, suc-le-suc}
 use native.Mathlib.Nat.{le_of_suc-le-suc, not-suc-le-zero, lt_trans, le_of_lt, le_trans, lt_of_lt_of_le, eq-or-lt_of_le}
 use native.Mathlib.Omega.{arith}
-use lib.Dec.{eqb}
+use lib.Dec.{eqb, leb}
 use lib.ListN.{length, get_or}
-use borrow.Author.Tests.{le-leb, lt-leb, lt-ltb, le-ltb}
+use borrow.Author.Tests.{le-leb, lt-leb, lt-ltb, le-ltb, leb-true, leb-false}
+use Rattle.std.specs.List.Sorted.{IsNonDecreasingBy, IsPartitionPoint}
+use Rattle.std.proofs.lemmas.List.Sorted.{IsNonDecreasingBy-from_default}
 use Rattle.ranges.specs.Ranges.{member, Ascending}
 
 -- lo and hi bracket the place: what stands before lo is at most x, what stands from hi on is above it
@@ -46,6 +48,23 @@ module _ {a : List ℕ} {x lo hi : ℕ} (s : Ascending a) (b : Bracket a x lo hi
       at : (k : ℕ) → (m ≡ k) ⊎ (m < k) → k < length a → x < get_or a k 0
       at k (inl e) h = rw (← e) c
       at k (inr l) h = lt_trans c (s m k l h)
+
+-- a table that goes up, as the library's search asks it
+pub ascending_rises : (a : List ℕ) → Ascending a → IsNonDecreasingBy (λ n. n) a
+ascending_rises a s = IsNonDecreasingBy-from_default (λ n. n) a 0 (λ i j l m. at i j (eq-or-lt_of_le l) m)
+  where
+    at : (i j : ℕ) → (i ≡ j) ⊎ (i < j) → j < length a → get_or a i 0 ≤ get_or a j 0
+    at i j (inl e) m = omega (arith, ap (λ (n : ℕ). get_or a n 0) e)
+    at i j (inr l) m = le_of_lt (s i j l m)
+
+-- the place that the library's search finds
+pub at_point : (a : List ℕ) (x r : ℕ) → r ≤ length a → IsPartitionPoint (λ n. leb n x ≡ true) (λ n. leb n x ≡ false) a r → Bracket a x r r
+at_point a x r h p = record {
+  lo_le = omega arith;
+  hi_le = h;
+  below = λ k l. leb-true _ _ (p.0 k 0 zero-le l);
+  beyond = λ k l m. leb-false _ _ (p.1 k 0 l m);
+}
 
 abbrev pub odd : ℕ → Bool
 odd zero = false

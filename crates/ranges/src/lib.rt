@@ -36,17 +36,7 @@ fn boundaries_passed(table: &[u32], c: u32) -> usize
     ensures below { (k : ℕ) → k < result → get_or table.now k 0 ≤ c }
     ensures above { (k : ℕ) → result ≤ k → k < length table.now → c < get_or table.now k 0 }
 {
-    let mut lo = 0;
-    let mut hi = table.len();
-    while lo < hi {
-        let mid = lo + ((hi - lo) >> 1);
-        if table[mid] <= c {
-            lo = mid + 1;
-        } else {
-            hi = mid;
-        }
-    }
-    lo
+    table.partition_point(|&boundary| boundary <= c)
 }
 
 // Is c in one of the table's ranges? Behind a start and before its end an odd number of boundaries is passed.

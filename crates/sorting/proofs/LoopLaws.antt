@@ -1,24 +1,21 @@
--- The loops of `save` and `merge_runs`, turn by turn.
+-- The loop of `merge_runs`, turn by turn.
 -- Assumes nothing.
 use mathlib.Core.Path.{◌≡◌, refl, sym, ap, ◌∙◌}
 use mathlib.Core.Bool.{Bool, true, false, ◌&&◌}
-use mathlib.Core.List.{List, [], ◌∷◌, ◌++◌}
+use mathlib.Core.List.{List, ◌∷◌, ◌++◌}
 use Prim.Native.Nat.{ℕ, suc, ◌+◌, ◌-◌, ◌≤◌, ◌<◌}
 use native.Mathlib.Numerals.{add-one}
 use native.Mathlib.Omega.{arith}
 use borrow.Author.Tests.{ltb-true, ltb-false}
 use lib.Dec.{ltb}
 use lib.ListN.{length, take, drop, get_or, set, length-set, length-take, drop_of_length-le, take-append-drop}
-use lib.Seq.{drop-cons, drop-set-lt, append_snoc, get_or-take, take-suc, length-take-le}
+use lib.Seq.{drop-cons, drop-set-lt, append_snoc, get_or-take, length-take-le}
 use Rattle.buffers.proofs.Appending.{snoc}
 use Rattle.buffers.proofs.Choice.{and_left, and_right}
 use Rattle.sorting.specs.Order.{precedes}
 use Rattle.sorting.specs.Merge.{into, merge_by, merged_part}
 use Rattle.sorting.proofs.MergeLaws.{merge_left, merge_right}
 use Rattle.sorting.proofs.PartLaws.{part_rest}
-
-pub save_more : (i : ℕ) (s spare : List ℕ) → i < length s → i < length spare → take i spare ≡ take i s → take (i + 1) (set spare i (get_or s i 0)) ≡ take (i + 1) s
-save_more i s spare h g e = snoc i spare (get_or s i 0) g ∙ ap (λ (l : List ℕ). l ++ get_or s i 0 ∷ []) e ∙ sym (rw (add-one i) (take-suc s i 0 h))
 
 -- the table so far: what is written, then the merge of what is left of both runs, then the rest; the gap between what is written
 -- and what is to be read of the second run is as long as what is left of the first

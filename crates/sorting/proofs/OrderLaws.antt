@@ -4,7 +4,7 @@ use mathlib.Core.Path.{◌≡◌, refl, sym, ◌∙◌}
 use mathlib.Core.Logic.{◌⊎◌, inl, inr}
 use mathlib.Core.Bool.{Bool, true, false, false≢true, or-false}
 use mathlib.Core.List.{List, [], ◌∷◌}
-use Prim.Native.Nat.{ℕ, ◌+◌, ◌≤◌, ◌<◌}
+use Prim.Native.Nat.{ℕ, ◌+◌, ◌≤◌, ◌<◌, min}
 use native.Mathlib.Numerals.{add-one}
 use native.Mathlib.Omega.{arith}
 use borrow.Author.Tests.{ltb-true, ltb-false, lt-ltb, le-ltb, eq-eqb, ne_eqb}
@@ -120,6 +120,14 @@ module _ (x y : List ℕ) (i : ℕ) where
   pub scan_prefix : length x ≤ i → i < length y → precedes (drop i x) (drop i y) ≡ true
   unfolding precedes
   scan_prefix h g = rw (drop_of_length-le x {i = i} h, drop-cons y i 0 g)
+
+  -- where the shorter ends, the longer comes behind
+  pub scan_over : i ≡ min (length x) (length y) → precedes (drop i x) (drop i y) ≡ ltb (length x) (length y)
+  scan_over e = go (ltb (length x) (length y)) refl
+    where
+      go : (t : Bool) → ltb (length x) (length y) ≡ t → precedes (drop i x) (drop i y) ≡ t
+      go true l = scan_prefix (omega (arith, ltb-true _ _ l)) (omega (arith, ltb-true _ _ l))
+      go false l = scan_end (omega (arith, ltb-false _ _ l))
 
   module _ (h : i < length x) (g : i < length y) where
     pub scan_differ : (get_or x i 0 ≡ get_or y i 0 → ⊥) → precedes (drop i x) (drop i y) ≡ ltb (get_or x i 0) (get_or y i 0)

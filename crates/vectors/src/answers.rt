@@ -1,8 +1,14 @@
 // What the oracle answered beside what our functions gave and wrote.
 use crate::{control, little};
+use format::Refusal;
 
 // How long an output is: longer than any answer.
 pub const OUTPUT: usize = 32_768;
+
+// The number of a refusal.
+pub fn number(refusal: Refusal) -> u64 {
+    little::wide(refusal.into())
+}
 
 // Is the answer so many bytes, at most nine: this one, and a number in the others?
 pub fn is(answer: &[u8], size: usize, first: u64, number: u64) -> bool {
@@ -38,11 +44,9 @@ fn number_or(text: &[u8], at: usize, other: u64) -> u64 {
 // Does a table of bytes hold this text and nothing else?
 pub fn bytes_hold(s: &[u8], text: &[u8], used: usize, table: usize, wrong: usize) -> bool {
     let mut same = text.len() <= s.len();
-    let mut i: usize = 0;
-    while i < s.len() {
+    for (i, &b) in s.iter().enumerate() {
         let unwritten = control::unwritten(i, used, table, wrong);
-        same = same & (little::wide(s[i]) == byte_or(text, i, unwritten));
-        i += 1;
+        same = same & (little::wide(b) == byte_or(text, i, unwritten));
     }
     same
 }
@@ -52,14 +56,13 @@ pub fn output_holds(out: &[u8; OUTPUT], text: &[u8], wrong: usize) -> bool {
     bytes_hold(out, text, 0, control::OUTPUT, wrong)
 }
 
-// Does a table of numbers hold those of this text, eight bytes each, and nothing else?
+// Does a table of numbers hold those of this text, eight bytes each, and nothing else? One function for this and `bytes_hold` would take
+// two closures for two lines.
 pub fn numbers_hold(s: &[u64], text: &[u8], used: usize, table: usize, wrong: usize) -> bool {
     let mut same = text.len() / 8 <= s.len();
-    let mut i: usize = 0;
-    while i < s.len() {
+    for (i, &number) in s.iter().enumerate() {
         let unwritten = control::unwritten(i, used, table, wrong);
-        same = same & (s[i] == number_or(text, i, unwritten));
-        i += 1;
+        same = same & (number == number_or(text, i, unwritten));
     }
     same
 }

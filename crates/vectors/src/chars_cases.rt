@@ -1,16 +1,14 @@
 // Cases of the crate chars.
 use crate::{answers, little};
-use chars::Step;
 
 // 0, or 1, the code point in four bytes and the width.
 fn decode_case(input: &[u8], answer: &[u8]) -> bool {
-    let step = chars::decode_char(input, 0);
-    match step {
-        Step::Char(c, n) => {
+    match chars::decode_char(input, 0) {
+        Some((c, n)) => {
             answers::is(little::first_part(answer, 5), 5, 1, c as u64)
                 & answers::is(little::rest_of(answer, 5), 1, n as u64, 0)
         }
-        Step::Bad => answers::is(answer, 1, 0, 0),
+        None => answers::is(answer, 1, 0, 0),
     }
 }
 

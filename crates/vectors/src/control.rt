@@ -23,7 +23,7 @@ pub fn unwritten(at: usize, used: usize, table: usize, wrong: usize) -> u64 {
     if at < used {
         return (wrong == table) as u64;
     }
-    if wrong == std::num::wrapping_add_usize(table, 4) {
+    if wrong == table.wrapping_add(4) {
         return 78;
     }
     77

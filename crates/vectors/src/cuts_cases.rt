@@ -1,25 +1,22 @@
 // Cases of the crate cuts.
 use crate::{answers, control, little};
-use cuts::{Cut, Found};
-use format::Log;
+use format::{Log, Refusal};
 
 // One entry more than a body has places.
 const PLACES: usize = Log::LINE_LIMIT + 1;
 
 // So many places, eight bytes each, or a refusal, one byte: the other of the two is empty.
-fn same_cut(cut: Cut, places: &[u8], refusal: &[u8]) -> bool {
+fn same_cut(cut: Result<usize, Refusal>, places: &[u8], refusal: &[u8]) -> bool {
     match cut {
-        Cut::Places(n) => {
-            (refusal.len() == 0) & (places.len() % 8 == 0) & (places.len() / 8 == n)
-        }
-        Cut::Refused(e) => answers::is(refusal, 1, little::wide(e), 0),
+        Ok(n) => { (refusal.len() == 0) & (places.len() % 8 == 0) & (places.len() / 8 == n) }
+        Err(e) => answers::is(refusal, 1, answers::number(e), 0),
     }
 }
 
 // Cuts into the first `room` entries of a table, which is then looked at whole.
 fn cut_in(room: usize, body: &[u8], places: &[u8], refusal: &[u8], wrong: usize) -> bool {
     let mut table = [77u64; PLACES];
-    let cut = cuts::cut_body(little::first_numbers(&mut table, room), body);
+    let cut = cuts::cut_body(little::lent_part(&mut table, room), body);
     same_cut(cut, places, refusal)
         & answers::numbers_hold(&table, places, 0, control::OUTPUT, wrong)
 }
@@ -28,7 +25,7 @@ fn cut_in(room: usize, body: &[u8], places: &[u8], refusal: &[u8], wrong: usize)
 fn body_case(body: &[u8], places: &[u8], wrong: usize) -> bool {
     let n = places.len() / 8;
     let none = little::first_part(places, 0);
-    let full = std::num::wrapping_sub_usize(n, (wrong == control::JUST_FULL) as usize);
+    let full = n.wrapping_sub((wrong == control::JUST_FULL) as usize);
     let enough = cut_in(PLACES, body, places, none, wrong)
         & cut_in(full, body, places, none, wrong);
     if n == 0 {
@@ -39,10 +36,10 @@ fn body_case(body: &[u8], places: &[u8], wrong: usize) -> bool {
 }
 
 // 0, or 1 and the place in four bytes.
-fn place_case(found: Found, answer: &[u8]) -> bool {
+fn place_case(found: Option<usize>, answer: &[u8]) -> bool {
     match found {
-        Found::At(place) => answers::is(answer, 5, 1, place as u64),
-        Found::Nothing => answers::is(answer, 1, 0, 0),
+        Some(place) => answers::is(answer, 5, 1, place as u64),
+        None => answers::is(answer, 1, 0, 0),
     }
 }
 

@@ -1,26 +1,18 @@
 // Cases of the crates escapes and keys. A text is expected, or a refusal of one byte: the other of the two is empty.
 use crate::{answers, little};
-use escapes::Decoded;
-use keys::Spelled;
+use format::Refusal;
 
-fn same_decoded(decoded: Decoded, text: &[u8], refusal: &[u8]) -> bool {
-    match decoded {
-        Decoded::Written(n) => (n == text.len()) & (refusal.len() == 0),
-        Decoded::Refused(e) => answers::is(refusal, 1, little::wide(e), 0),
-    }
-}
-
-fn same_spelled(spelled: Spelled, text: &[u8], refusal: &[u8]) -> bool {
-    match spelled {
-        Spelled::Written(n) => (n == text.len()) & (refusal.len() == 0),
-        Spelled::Refused(e) => answers::is(refusal, 1, little::wide(e), 0),
+fn same_written(written: Result<usize, Refusal>, text: &[u8], refusal: &[u8]) -> bool {
+    match written {
+        Ok(n) => (n == text.len()) & (refusal.len() == 0),
+        Err(e) => answers::is(refusal, 1, answers::number(e), 0),
     }
 }
 
 fn decode_case(input: &[u8], text: &[u8], refusal: &[u8], wrong: usize) -> bool {
     let mut out = [77u8; answers::OUTPUT];
     let decoded = escapes::decode(&mut out, input);
-    same_decoded(decoded, text, refusal) & answers::output_holds(&out, text, wrong)
+    same_written(decoded, text, refusal) & answers::output_holds(&out, text, wrong)
 }
 
 // A type of so many bytes, and then the id.
@@ -29,7 +21,7 @@ fn key_case(input: &[u8], size: usize, text: &[u8], refusal: &[u8], wrong: usize
     let id = little::rest_of(input, size);
     let mut out = [77u8; answers::OUTPUT];
     let spelled = keys::spell_key(&mut out, ty, id);
-    same_spelled(spelled, text, refusal) & answers::output_holds(&out, text, wrong)
+    same_written(spelled, text, refusal) & answers::output_holds(&out, text, wrong)
 }
 
 pub fn agrees(op: usize, input: &[u8], answer: &[u8], wrong: usize) -> bool {

@@ -1,14 +1,14 @@
 // Cases of the crate lines: what a line gives and what the tables then hold.
 use crate::packs::TableLengths;
 use crate::{answers, little, packs};
-use lines::LineRead;
+use format::{Front, Refusal};
 
 // 0 and the refusal, or 1 and the pack, or 2 for a blank line.
-fn same_line(read: LineRead, answer: &[u8]) -> bool {
+fn same_line(read: Result<Option<Front>, Refusal>, answer: &[u8]) -> bool {
     match read {
-        LineRead::Event(front) => packs::is_pack(answer, front),
-        LineRead::Blank => answers::is(answer, 1, 2, 0),
-        LineRead::Refused(e) => answers::is(answer, 2, 0, little::wide(e)),
+        Ok(Some(front)) => packs::is_pack(answer, front),
+        Ok(None) => answers::is(answer, 1, 2, 0),
+        Err(e) => answers::is(answer, 2, 0, answers::number(e)),
     }
 }
 
@@ -18,9 +18,9 @@ pub fn agrees(lent: TableLengths, input: &[u8], answer: &[u8], wrong: usize) -> 
     let mut numbers = [77u64; packs::NUMBERS];
     let mut texts = [77u8; packs::TEXTS];
     let read = lines::read_line(
-        little::first_bytes(&mut kinds, lent.kinds),
-        little::first_numbers(&mut numbers, lent.numbers),
-        little::first_bytes(&mut texts, lent.texts),
+        little::lent_part(&mut kinds, lent.kinds),
+        little::lent_part(&mut numbers, lent.numbers),
+        little::lent_part(&mut texts, lent.texts),
         input,
     );
     same_line(read, answer) & packs::left_by(answer, pack, &kinds, &numbers, &texts, wrong)

@@ -1,16 +1,14 @@
 // Cases of the crate listing: what a line lists, and what the output and the tables then hold.
 use crate::packs::TableLengths;
 use crate::{answers, little, packs};
-use listing::Listed;
+use format::Refusal;
 
 // 0 and the refusal, or 1 and the listing, or 2 for a blank line.
-fn same_listed(listed: Listed, answer: &[u8]) -> bool {
+fn same_listed(listed: Result<Option<usize>, Refusal>, answer: &[u8]) -> bool {
     match listed {
-        Listed::Written(n) => {
-            (little::byte(answer, 0) == 1) & (answer.len() == little::along(n, 1))
-        }
-        Listed::Blank => answers::is(answer, 1, 2, 0),
-        Listed::Refused(e) => answers::is(answer, 2, 0, little::wide(e)),
+        Ok(Some(n)) => { (little::byte(answer, 0) == 1) & (answer.len() == little::along(n, 1)) }
+        Ok(None) => answers::is(answer, 1, 2, 0),
+        Err(e) => answers::is(answer, 2, 0, answers::number(e)),
     }
 }
 
@@ -26,10 +24,10 @@ pub fn agrees(lent: TableLengths, input: &[u8], answer: &[u8], wrong: usize) -> 
     let mut texts = [77u8; packs::TEXTS];
     let mut out = [77u8; answers::OUTPUT];
     let listed = listing::list_line(
-        little::first_bytes(&mut kinds, lent.kinds),
-        little::first_numbers(&mut numbers, lent.numbers),
-        little::first_bytes(&mut texts, lent.texts),
-        little::first_bytes(&mut out, room),
+        little::lent_part(&mut kinds, lent.kinds),
+        little::lent_part(&mut numbers, lent.numbers),
+        little::lent_part(&mut texts, lent.texts),
+        little::lent_part(&mut out, room),
         line,
         number,
     );

@@ -4,21 +4,18 @@ ghost use Rattle.std.specs.Prelude.{◌<◌};
 pub fn byte(s: &[u8], at: usize) -> u64
     ensures { result < 256 }
 {
-    if at < s.len() {
-        return wide(s[at]);
-    }
-    0
+    wide(s.get(at).copied().unwrap_or(0))
 }
 
 pub fn wide(b: u8) -> u64
     ensures { result < 256 }
 {
-    b as u64
+    u64::from(b)
 }
 
 // The place `by` further; it wraps, and then stands past no text that we read.
 pub fn along(at: usize, by: usize) -> usize {
-    std::num::wrapping_add_usize(at, by)
+    at.wrapping_add(by)
 }
 
 pub fn two(s: &[u8], at: usize) -> u64
@@ -37,16 +34,8 @@ pub fn eight(s: &[u8], at: usize) -> u64 {
     four(s, at) + four(s, along(at, 4)) * 4_294_967_296
 }
 
-// The first n bytes, or all where there are fewer.
-pub fn first_part(s: &[u8], n: usize) -> &[u8] {
-    if n < s.len() {
-        return &s[..n];
-    }
-    s
-}
-
-// The first n numbers, or all where there are fewer.
-pub fn prefix_numbers(s: &[u64], n: usize) -> &[u64] {
+// The first n entries, or all where there are fewer.
+pub fn first_part<T>(s: &[T], n: usize) -> &[T] {
     if n < s.len() {
         return &s[..n];
     }
@@ -66,16 +55,8 @@ pub fn rest_of(s: &[u8], n: usize) -> &[u8] {
     part(s, n, s.len())
 }
 
-// The first n bytes of a table, to be lent.
-pub fn first_bytes(s: &mut [u8], n: usize) -> &mut [u8] {
-    if n < s.len() {
-        return &mut s[..n];
-    }
-    s
-}
-
-// The first n numbers of a table, to be lent.
-pub fn first_numbers(s: &mut [u64], n: usize) -> &mut [u64] {
+// The same of a table, to be lent.
+pub fn lent_part<T>(s: &mut [T], n: usize) -> &mut [T] {
     if n < s.len() {
         return &mut s[..n];
     }

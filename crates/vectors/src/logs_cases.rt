@@ -1,15 +1,20 @@
 // Cases of the crate logs: how a log is judged, and that the tables then hold nothing of it.
 use crate::packs::TableLengths;
 use crate::{answers, little, packs};
-use logs::Judged;
+use logs::LineRefusal;
 
 // 0, the refusal and its line in four bytes, or 1 and the count of events in four bytes.
-fn same_judged(judged: Judged, answer: &[u8]) -> bool {
+fn same_judged(judged: Result<usize, LineRefusal>, answer: &[u8]) -> bool {
     match judged {
-        Judged::Accepted(count) => answers::is(answer, 5, 1, count as u64),
-        Judged::Refused(e, line) => {
+        Ok(count) => answers::is(answer, 5, 1, count as u64),
+        Err(LineRefusal { refusal, line }) => {
             answers::is(little::first_part(answer, 1), 1, 0, 0)
-                & answers::is(little::rest_of(answer, 1), 5, little::wide(e), line as u64)
+                & answers::is(
+                    little::rest_of(answer, 1),
+                    5,
+                    answers::number(refusal),
+                    line as u64,
+                )
         }
     }
 }
@@ -20,9 +25,9 @@ pub fn agrees(lent: TableLengths, input: &[u8], answer: &[u8], wrong: usize) -> 
     let mut numbers = [77u64; packs::NUMBERS];
     let mut texts = [77u8; packs::TEXTS];
     let judged = logs::judge(
-        little::first_bytes(&mut kinds, lent.kinds),
-        little::first_numbers(&mut numbers, lent.numbers),
-        little::first_bytes(&mut texts, lent.texts),
+        little::lent_part(&mut kinds, lent.kinds),
+        little::lent_part(&mut numbers, lent.numbers),
+        little::lent_part(&mut texts, lent.texts),
         input,
     );
     same_judged(judged, answer) & packs::left_by(answer, none, &kinds, &numbers, &texts, wrong)

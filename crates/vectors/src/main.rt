@@ -19,7 +19,7 @@ mod numbers_cases;
 mod packs;
 mod values_cases;
 
-use crate::input::{END, read_number, read_text};
+use crate::input::{read_number, read_text};
 use crate::packs::TableLengths;
 use std::io;
 use std::io::{Print, Read};
@@ -27,23 +27,30 @@ use std::io::{Print, Read};
 // A text of a case, and its buffer's length.
 const LONGEST: usize = 140_000;
 
-// How many cases were read, how many answers differ, and the last case that does, counted from one.
+// How many cases were read, how many answers differ, the last case that does, counted from one, and whether the input had all of them.
 #[derive(Clone, Copy)]
 pub struct Tally {
     pub cases: u64,
     pub differ: u64,
-    pub last: u64,
+    pub last: Option<u64>,
     pub whole: bool,
 }
 
-// Was a case read whole, and does its answer agree?
-#[derive(Clone, Copy)]
-pub struct Seen {
-    pub whole: bool,
-    pub same: bool,
+// Does our function give this answer, with tables lent as the op says?
+fn lent_asked(group: usize, op: usize, input: &[u8], answer: &[u8], wrong: usize) -> bool {
+    let Some(lent) = TableLengths::by_op(op) else {
+        return false;
+    };
+    match group {
+        6 => lines_cases::agrees(lent, input, answer, wrong),
+        7 => logs_cases::agrees(lent, input, answer, wrong),
+        8 => listings_cases::agrees(lent, input, answer, wrong),
+        9 => merges_cases::agrees(lent, input, answer, wrong),
+        _ => false,
+    }
 }
 
-// Does our function give this answer?
+// Does our function give this answer? Each case reads data of its own, so that a table of functions would be no plainer.
 fn asked(group: usize, op: usize, input: &[u8], answer: &[u8], wrong: usize) -> bool {
     match group {
         1 => chars_cases::agrees(op, input, answer),
@@ -51,15 +58,7 @@ fn asked(group: usize, op: usize, input: &[u8], answer: &[u8], wrong: usize) -> 
         3 => cuts_cases::agrees(op, input, answer, wrong),
         4 => escapes_cases::agrees(op, input, answer, wrong),
         5 => (op == 1) & values_cases::agrees(input, answer),
-        6 => TableLengths::has(op)
-            & lines_cases::agrees(TableLengths::by_op(op), input, answer, wrong),
-        7 => TableLengths::has(op)
-            & logs_cases::agrees(TableLengths::by_op(op), input, answer, wrong),
-        8 => TableLengths::has(op)
-            & listings_cases::agrees(TableLengths::by_op(op), input, answer, wrong),
-        9 => TableLengths::has(op)
-            & merges_cases::agrees(TableLengths::by_op(op), input, answer, wrong),
-        _ => false,
+        _ => lent_asked(group, op, input, answer, wrong),
     }
 }
 
@@ -102,58 +101,42 @@ fn agrees(group: usize, op: usize, input: &[u8], answer: &[u8]) -> bool {
     )
 }
 
-fn counted(tally: Tally, seen: Seen) -> Tally {
-    if !seen.whole {
+// With a case more, which agrees or does not; none was read where the input is cut short.
+fn counted(tally: Tally, same: Option<bool>) -> Tally {
+    let Some(same) = same else {
         return Tally {
-            cases: tally.cases,
-            differ: tally.differ,
-            last: tally.last,
             whole: false,
+            ..tally
         };
-    }
-    let cases = std::num::wrapping_add_u64(tally.cases, 1);
-    if seen.same {
-        return Tally {
-            cases,
-            differ: tally.differ,
-            last: tally.last,
-            whole: true,
-        };
+    };
+    let cases = tally.cases.wrapping_add(1);
+    if same {
+        return Tally { cases, ..tally };
     }
     Tally {
         cases,
-        differ: std::num::wrapping_add_u64(tally.differ, 1),
-        last: cases,
-        whole: true,
+        differ: tally.differ.wrapping_add(1),
+        last: Some(cases),
+        ..tally
     }
 }
 
-// One case of a group.
+// Reads one case of a group. Does its answer agree? None where the input has it not whole.
 fn replay_case(
     reader: &mut impl Read,
     group: usize,
     input: &mut [u8; LONGEST],
     answer: &mut [u8; LONGEST],
-) -> Seen {
-    let op = read_number(reader, 1);
-    let given = read_text(reader, input);
-    let expected = read_text(reader, answer);
-    // A text that the input has not whole, or that is too long, ends past its buffer.
-    if (given > LONGEST) | (expected > LONGEST) {
-        return Seen {
-            whole: false,
-            same: false,
-        };
-    }
-    Seen {
-        whole: true,
-        same: agrees(
-            group,
-            op,
-            little::first_part(input, given),
-            little::first_part(answer, expected),
-        ),
-    }
+) -> Option<bool> {
+    let op = read_number(reader, 1)?;
+    let given = read_text(reader, input)?;
+    let expected = read_text(reader, answer)?;
+    Some(agrees(
+        group,
+        op,
+        little::first_part(input, given),
+        little::first_part(answer, expected),
+    ))
 }
 
 fn replay_section(reader: &mut impl Read, group: usize, count: usize) -> Tally {
@@ -162,14 +145,12 @@ fn replay_section(reader: &mut impl Read, group: usize, count: usize) -> Tally {
     let mut tally = Tally {
         cases: 0,
         differ: 0,
-        last: 0,
+        last: None,
         whole: true,
     };
-    let mut left = count;
-    while left > 0 {
-        let seen = replay_case(reader, group, &mut input, &mut answer);
-        tally = counted(tally, seen);
-        left -= 1;
+    for _ in 0..count {
+        let same = replay_case(reader, group, &mut input, &mut answer);
+        tally = counted(tally, same);
         if !tally.whole {
             return tally;
         }
@@ -185,7 +166,7 @@ fn report(rt: &impl Print, group: usize, tally: Tally) -> io::Result<()> {
         whole,
     } = tally;
     print!(rt; "group {group}: {cases} cases, {differ} differ")?;
-    if differ > 0 {
+    if let Some(last) = last {
         print!(rt; ", last case {last}")?;
     }
     if !whole {
@@ -196,14 +177,12 @@ fn report(rt: &impl Print, group: usize, tally: Tally) -> io::Result<()> {
 
 fn main(rt: HostRuntime) {
     let mut reader = rt.stdin();
-    let mut sections: usize = 0;
-    while sections < 16 {
-        sections += 1;
-        let group = read_number(&mut reader, 1);
-        if group == END {
+    for _ in 0..16 {
+        let Some(group) = read_number(&mut reader, 1) else {
             return;
-        }
-        let count = read_number(&mut reader, 4);
+        };
+        // Where the count is cut short, so is the first case.
+        let count = read_number(&mut reader, 4).unwrap_or(1);
         let _ = report(&rt, group, replay_section(&mut reader, group, count));
     }
 }

@@ -2,20 +2,18 @@
 use crate::packs::TableLengths;
 use crate::{answers, control, little, packs};
 use format::Log;
-use merging::Merged;
+use merging::MergeRefusal;
 
 // How long the output is: longer than any merged log.
 const OUTPUT: usize = Log::TEXT_LIMIT + 16;
 
 // 0, the refusal, its log, and its line in four bytes; or 1 and the merged log.
-fn same_merged(merged: Merged, answer: &[u8]) -> bool {
+fn same_merged(merged: Result<usize, MergeRefusal>, answer: &[u8]) -> bool {
     match merged {
-        Merged::Written(n) => {
-            (little::byte(answer, 0) == 1) & (answer.len() == little::along(n, 1))
-        }
-        Merged::Refused(e, log, line) => {
+        Ok(n) => { (little::byte(answer, 0) == 1) & (answer.len() == little::along(n, 1)) }
+        Err(MergeRefusal { refusal, log, line }) => {
             answers::is(little::first_part(answer, 1), 1, 0, 0)
-                & answers::is(little::part(answer, 1, 1), 1, little::wide(e), 0)
+                & answers::is(little::part(answer, 1, 1), 1, answers::number(refusal), 0)
                 & answers::is(
                     little::rest_of(answer, 2),
                     5,
@@ -39,10 +37,10 @@ pub fn agrees(lent: TableLengths, input: &[u8], answer: &[u8], wrong: usize) -> 
     let mut texts = [77u8; packs::TEXTS];
     let mut out = [77u8; OUTPUT];
     let merged = merging::merge(
-        little::first_bytes(&mut kinds, lent.kinds),
-        little::first_numbers(&mut numbers, lent.numbers),
-        little::first_bytes(&mut texts, lent.texts),
-        little::first_bytes(&mut out, room),
+        little::lent_part(&mut kinds, lent.kinds),
+        little::lent_part(&mut numbers, lent.numbers),
+        little::lent_part(&mut texts, lent.texts),
+        little::lent_part(&mut out, room),
         first,
         second,
     );

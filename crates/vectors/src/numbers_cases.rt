@@ -1,13 +1,11 @@
 // Cases of the crate numbers.
 use crate::answers;
-use numbers::Int;
 
 // 0, or 1 and the number in eight bytes.
 fn integer_case(input: &[u8], answer: &[u8]) -> bool {
-    let found = numbers::parse_i64(input);
-    match found {
-        Int::Is(n) => answers::is(answer, 9, 1, n),
-        Int::No => answers::is(answer, 1, 0, 0),
+    match numbers::parse_i64(input) {
+        Some(n) => answers::is(answer, 9, 1, n),
+        None => answers::is(answer, 1, 0, 0),
     }
 }
 

@@ -21,13 +21,9 @@ pub struct TableLengths {
 }
 
 impl TableLengths {
-    pub fn has(op: usize) -> bool {
-        (op > 0) & (op < 6)
-    }
-
     // Ops 1 to 5: longer than used, just so long as used, and an entry short of one.
-    pub fn by_op(op: usize) -> TableLengths {
-        match op {
+    pub fn by_op(op: usize) -> Option<TableLengths> {
+        let lengths = match op {
             1 => TableLengths {
                 kinds: KINDS,
                 numbers: NUMBERS,
@@ -48,12 +44,14 @@ impl TableLengths {
                 numbers: Log::NODES,
                 texts: Log::TEXTS - 1,
             },
-            _ => TableLengths {
+            2 => TableLengths {
                 kinds: Log::NODES,
                 numbers: Log::NODES,
                 texts: Log::TEXTS,
             },
-        }
+            _ => return None,
+        };
+        Some(lengths)
     }
 }
 

@@ -1,28 +1,28 @@
 // Cases of the crate values: a value's pack, compared with the oracle's.
 use crate::{answers, little, packs};
-use format::{Log, Read};
+use format::{Log, Reach, Refusal};
 
 // 0 and the refusal, or 1 and the pack. Of what stands behind it in the tables nothing is promised.
 fn same_value(
-    read: Read,
+    read: Result<Reach, Refusal>,
     kinds: &[u8; packs::KINDS],
     numbers: &[u64; packs::NUMBERS],
     texts: &[u8; packs::TEXTS],
     answer: &[u8],
 ) -> bool {
     match read {
-        Read::Done(reach) => {
+        Ok(reach) => {
             packs::is_pack(answer, Log::front_of(reach))
                 & packs::hold(
                     little::first_part(kinds, reach.nodes),
-                    little::prefix_numbers(numbers, reach.nodes),
+                    little::first_part(numbers, reach.nodes),
                     little::first_part(texts, reach.texts),
                     little::rest_of(answer, 1),
                     reach,
                     0,
                 )
         }
-        Read::Refused(e) => answers::is(answer, 2, 0, little::wide(e)),
+        Err(e) => answers::is(answer, 2, 0, answers::number(e)),
     }
 }
 

@@ -7,26 +7,11 @@ use Rattle.chars.specs.Utf8.{utf8_from, utf8}
 use Rattle.chars.proofs.Reading.{char_stuck}
 use Rattle.chars.proofs.is_utf8.Goals as goal
 
-pub loop-at-init : goal.loop-at-init
-loop-at-init c = (omega arith, refl)
-
-pub advance-n-requires : goal.advance-n-requires
-advance-n-requires c = c.loop-at-test.true
-
-pub returns-then-n-eq0 : goal.returns-then-n-eq0
-returns-then-n-eq0 c =
+pub returns-in-None : goal.returns-in-None
+returns-in-None c =
     let l = c.loop-at in
     let s = c.args.s.now in
-    sym (l.invariant.1 ∙ char_stuck (drop l.at s) (omega (arith, length-drop l.at s, c.loop-at-test.true)) (c.advance-n.ensures.stuck c.if-n-eq0.true))
-
-pub overflow_add-at : goal.overflow_add-at
-overflow_add-at c = omega (arith, c.advance-n.ensures.inside)
-
-pub loop-at-smaller : goal.loop-at-smaller
-loop-at-smaller c = omega (arith, c.advance-n.ensures.inside)
-
-pub loop-at-preserved : goal.loop-at-preserved
-loop-at-preserved c = (c.advance-n.ensures.inside, c.loop-at.invariant.1 ∙ c.advance-n.ensures.onward)
+    sym (l.invariant.1 ∙ char_stuck (drop l.at s) (omega (arith, length-drop l.at s, c.loop-at-test.true)) (c.in-None.ensures.stuck refl))
 
 pub returns : goal.returns
 unfolding utf8_from

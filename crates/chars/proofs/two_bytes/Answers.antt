@@ -1,21 +1,19 @@
 -- `chars::two_bytes` meets its contract: each return follows from the tests that led there.
 -- Assumes nothing.
 use mathlib.Core.Logic.{inl, inr}
-use Rattle.chars.proofs.Runs.{two_first, two_short, two_second, two_good}
+use Rattle.std.proofs.Common.{arith}
+use Rattle.std.proofs.lemmas.Grind.{common_steps}
+use Rattle.chars.proofs.Runs.{two_first, two_short, two_second}
 use Rattle.chars.proofs.two_bytes.Goals as goal
 
-pub returns-then-s-at-lt194 : goal.returns-then-s-at-lt194
-returns-then-s-at-lt194 c = two_first c.args.s.now c.args.at c.requires.0 c.requires.1 c.if-s-at-lt194.true
+pub returns-in_default : goal.returns-in_default
+returns-in_default c = two_second c.args.s.now c.args.at c.requires.0 c.requires.1 (inl (grind (arith, common_steps)))
 
-pub returns-then-s-at-lt2 : goal.returns-then-s-at-lt2
-returns-then-s-at-lt2 c = two_short c.args.s.now c.args.at c.requires.0 c.requires.1 c.if-s-at-lt2.true
+pub returns-in_default-2 : goal.returns-in_default-2
+returns-in_default-2 c = two_first c.args.s.now c.args.at c.requires.0 c.requires.1 c.if-s-at-ge194.false
 
-pub returns-then-b-lt128 : goal.returns-then-b-lt128
-returns-then-b-lt128 c = two_second c.args.s.now c.args.at c.requires.0 c.requires.1 (inl c.if-b-lt128.true)
+pub returns-in_default-3 : goal.returns-in_default-3
+returns-in_default-3 c = two_second c.args.s.now c.args.at c.requires.0 c.requires.1 (inr (grind (arith, common_steps)))
 
-pub returns-then-b-gt191 : goal.returns-then-b-gt191
-returns-then-b-gt191 c = two_second c.args.s.now c.args.at c.requires.0 c.requires.1 (inr c.if-b-gt191.true)
-
-pub returns : goal.returns
-returns c =
-    two_good c.args.s.now c.args.at c.requires.0 c.requires.1 c.if-s-at-lt194.false c.requires.2 c.if-b-lt128.false c.if-b-gt191.false
+pub returns-in_default-4 : goal.returns-in_default-4
+returns-in_default-4 c = two_short c.args.s.now c.args.at c.requires.0 c.requires.1 (grind (arith, common_steps))

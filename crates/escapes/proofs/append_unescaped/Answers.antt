@@ -5,22 +5,13 @@ use mathlib.Core.List.{[], ◌∷◌}
 use Prim.Native.Nat.{◌+◌, ◌-◌}
 use native.Mathlib.Omega.{arith}
 use lib.ListN.{length, take, drop, length-set}
-use Rattle.buffers.proofs.Appending.{one, going_start, going_by, going_room, going_done}
+use Rattle.buffers.proofs.Appending.{one, going_by, going_room, going_done}
 use Rattle.chars.specs.Utf8.{encode}
 use Rattle.chars.proofs.Encoding.{is_scalar}
 use Rattle.escapes.specs.Unescape.{unescape}
 use Rattle.escapes.proofs.Escapes.{held_char}
 use Rattle.escapes.proofs.Unescaping.{run_at, run_ends, run_moves, short_piece, short_ends, char_stands_at, char_ends, verbatim_run, verbatim_ends, unescape_end}
 use Rattle.escapes.proofs.append_unescaped.Goals as goal
-
-pub loop-i-init : goal.loop-i-init
-loop-i-init c = (omega arith, refl, going_start _ _ _)
-
-pub slice_bounds-append_bytes-count : goal.slice_bounds-append_bytes-count
-slice_bounds-append_bytes-count c = omega (arith, c.plain_run-stop.ensures)
-
-pub slice_bounds-append_bytes-start : goal.slice_bounds-append_bytes-start
-slice_bounds-append_bytes-start c = omega (arith, c.plain_run-stop.ensures)
 
 pub slice_bounds-append_bytes-end : goal.slice_bounds-append_bytes-end
 slice_bounds-append_bytes-end c =
@@ -55,39 +46,18 @@ pub bounds-out-end : goal.bounds-out-end
 bounds-out-end c =
     let l = c.loop-i in
     let s = c.args.s.now in
-    let t = short_piece s l.i c.loop-i-test.true c.if-s-i-ne92.false _ c.short_at-code.ensures c.if-code-lt128.true in
-    let r = going_room l.invariant.2 (length l.out) (c.short_at-code.result ∷ []) (unescape (drop (l.i + 2) s)) t (omega (arith, l.invariant.1, c.requires)) in
+    let t = short_piece s l.i c.loop-i-test.true c.if-s-i-ne92.false c.in-Some.code (sym c.short_at.ensures ∙ c.in-Some.is) in
+    let r = going_room l.invariant.2 (length l.out) (c.in-Some.code ∷ []) (unescape (drop (l.i + 2) s)) t (omega (arith, l.invariant.1, c.requires)) in
     omega arith
 
-pub overflow_add-end : goal.overflow_add-end
-overflow_add-end c =
+pub loop-i-preserved-in-Some : goal.loop-i-preserved-in-Some
+loop-i-preserved-in-Some c =
     let l = c.loop-i in
     let s = c.args.s.now in
-    let t = short_piece s l.i c.loop-i-test.true c.if-s-i-ne92.false _ c.short_at-code.ensures c.if-code-lt128.true in
-    let r = going_room l.invariant.2 (length l.out) (c.short_at-code.result ∷ []) (unescape (drop (l.i + 2) s)) t (omega (arith, l.invariant.1, c.requires)) in
-    omega arith
-
-pub overflow_add-i-then-code-lt128 : goal.overflow_add-i-then-code-lt128
-overflow_add-i-then-code-lt128 c =
-    let r = short_ends c.args.s.now c.loop-i.i c.loop-i-test.true c.if-s-i-ne92.false _ c.short_at-code.ensures c.if-code-lt128.true in
-    omega arith
-
-pub loop-i-smaller-then-code-lt128 : goal.loop-i-smaller-then-code-lt128
-loop-i-smaller-then-code-lt128 c =
-    let r = short_ends c.args.s.now c.loop-i.i c.loop-i-test.true c.if-s-i-ne92.false _ c.short_at-code.ensures c.if-code-lt128.true in
-    omega (arith, c.loop-i-test.true)
-
-pub loop-i-preserved-then-code-lt128 : goal.loop-i-preserved-then-code-lt128
-loop-i-preserved-then-code-lt128 c =
-    let l = c.loop-i in
-    let s = c.args.s.now in
-    let t = short_piece s l.i c.loop-i-test.true c.if-s-i-ne92.false _ c.short_at-code.ensures c.if-code-lt128.true in
-    let r = going_room l.invariant.2 (length l.out) (c.short_at-code.result ∷ []) (unescape (drop (l.i + 2) s)) t (omega (arith, l.invariant.1, c.requires)) in
-    let e = short_ends c.args.s.now c.loop-i.i c.loop-i-test.true c.if-s-i-ne92.false _ c.short_at-code.ensures c.if-code-lt128.true in
-    (e, simp length-set l.invariant.1, going_by l.invariant.2 t (one l.out l.end c.short_at-code.result (omega arith)))
-
-pub escape_at-requires : goal.escape_at-requires
-escape_at-requires c = omega (arith, c.loop-i-test.true)
+    let t = short_piece s l.i c.loop-i-test.true c.if-s-i-ne92.false c.in-Some.code (sym c.short_at.ensures ∙ c.in-Some.is) in
+    let r = going_room l.invariant.2 (length l.out) (c.in-Some.code ∷ []) (unescape (drop (l.i + 2) s)) t (omega (arith, l.invariant.1, c.requires)) in
+    let e = short_ends c.args.s.now c.loop-i.i c.loop-i-test.true c.if-s-i-ne92.false c.in-Some.code (sym c.short_at.ensures ∙ c.in-Some.is) in
+    (e, simp length-set l.invariant.1, going_by l.invariant.2 t (one l.out l.end c.in-Some.code (omega arith)))
 
 pub append_char-end-requires : goal.append_char-end-requires
 append_char-end-requires c =
@@ -100,20 +70,10 @@ append_char-end-requires c =
       going_room l.invariant.2 (length l.out) (encode e.c) (unescape (drop (l.i + 1 + e.n) s)) t (omega (arith, l.invariant.1, c.requires)),
     )
 
-pub overflow_add-i-in-Char : goal.overflow_add-i-in-Char
-overflow_add-i-in-Char c =
-    let f = sym c.escape_at.ensures ∙ c.in-Char.is in
-    omega (arith, char_ends c.args.s.now c.loop-i.i c.loop-i-test.true c.if-s-i-ne92.false c.in-Char.c c.in-Char.n f)
-
 pub overflow_add-i-in-Char-2 : goal.overflow_add-i-in-Char-2
 overflow_add-i-in-Char-2 c =
     let f = sym c.escape_at.ensures ∙ c.in-Char.is in
     omega (arith, char_ends c.args.s.now c.loop-i.i c.loop-i-test.true c.if-s-i-ne92.false c.in-Char.c c.in-Char.n f)
-
-pub loop-i-smaller-in-Char : goal.loop-i-smaller-in-Char
-loop-i-smaller-in-Char c =
-    let f = sym c.escape_at.ensures ∙ c.in-Char.is in
-    omega (arith, char_ends c.args.s.now c.loop-i.i c.loop-i-test.true c.if-s-i-ne92.false c.in-Char.c c.in-Char.n f, c.loop-i-test.true)
 
 pub loop-i-preserved-in-Char : goal.loop-i-preserved-in-Char
 loop-i-preserved-in-Char c =
@@ -126,11 +86,6 @@ loop-i-preserved-in-Char c =
     let b = c.if-s-i-ne92.false in
     (char_ends s l.i h b e.c e.n f, w.auto.out ∙ l.invariant.1, going_by l.invariant.2 (char_stands_at s l.i h b e.c e.n f) w.ensures)
 
-pub overflow_add-i-in-Verbatim : goal.overflow_add-i-in-Verbatim
-overflow_add-i-in-Verbatim c =
-    let f = sym c.escape_at.ensures ∙ c.in-Verbatim.is in
-    omega (arith, verbatim_ends c.args.s.now c.loop-i.i c.loop-i-test.true c.if-s-i-ne92.false c.in-Verbatim.n f)
-
 pub overflow_add-i-in-Verbatim-2 : goal.overflow_add-i-in-Verbatim-2
 overflow_add-i-in-Verbatim-2 c =
     let f = sym c.escape_at.ensures ∙ c.in-Verbatim.is in
@@ -140,14 +95,6 @@ pub plain_run-stop-requires-in-Verbatim : goal.plain_run-stop-requires-in-Verbat
 plain_run-stop-requires-in-Verbatim c =
     let f = sym c.escape_at.ensures ∙ c.in-Verbatim.is in
     verbatim_ends c.args.s.now c.loop-i.i c.loop-i-test.true c.if-s-i-ne92.false c.in-Verbatim.n f
-
-pub slice_bounds-append_bytes-count-in-Verbatim : goal.slice_bounds-append_bytes-count-in-Verbatim
-slice_bounds-append_bytes-count-in-Verbatim c =
-    omega (arith, c.plain_run-stop-in-Verbatim.ensures)
-
-pub slice_bounds-append_bytes-start-in-Verbatim : goal.slice_bounds-append_bytes-start-in-Verbatim
-slice_bounds-append_bytes-start-in-Verbatim c =
-    omega (arith, c.plain_run-stop-in-Verbatim.ensures)
 
 pub slice_bounds-append_bytes-end-in-Verbatim : goal.slice_bounds-append_bytes-end-in-Verbatim
 slice_bounds-append_bytes-end-in-Verbatim c =
@@ -163,12 +110,6 @@ append_bytes-end-requires-in-Verbatim c =
     let r = c.plain_run-stop-in-Verbatim in
     let t = verbatim_run s l.i c.loop-i-test.true c.if-s-i-ne92.false c.in-Verbatim.n r.result r.ensures f in
     going_room l.invariant.2 (length l.out) (take (r.result - l.i) (drop l.i s)) (unescape (drop r.result s)) t (omega (arith, l.invariant.1, c.requires))
-
-pub loop-i-smaller : goal.loop-i-smaller
-loop-i-smaller c =
-    let f = sym c.escape_at.ensures ∙ c.in-Verbatim.is in
-    let r = c.plain_run-stop-in-Verbatim in
-    omega (arith, r.ensures, run_ends c.args.s.now (c.loop-i.i + 1 + c.in-Verbatim.n) r.result r.ensures (verbatim_ends c.args.s.now c.loop-i.i c.loop-i-test.true c.if-s-i-ne92.false c.in-Verbatim.n f), c.loop-i-test.true)
 
 pub loop-i-preserved : goal.loop-i-preserved
 loop-i-preserved c =

@@ -1,77 +1,74 @@
 -- `escapes::braced_number` meets its contract. The loop's invariant: what the braces come to is what the digits still to be read make of the number so far.
 -- Assumes nothing.
 use mathlib.Core.Path.{◌≡◌, refl, sym, ap, ◌∙◌}
-use mathlib.Core.Bool.{true}
-use mathlib.Core.Option.{none, some}
-use Prim.Native.Nat.{◌+◌, ◌-◌, ◌*◌}
+use mathlib.Core.Bool.{true, false}
+use Prim.Native.Nat.{◌+◌, ◌-◌}
 use native.Mathlib.Omega.{arith}
-use borrow.Author.Tests.{lt-ltb, le-ltb}
 use lib.ListN.{get_or}
 use Rattle.escapes.specs.Unescape.{hex_digit, if_scalar, char_or}
 use Rattle.escapes.specs.Walk.{numbered}
 use Rattle.escapes.specs.declared.Escape.TheVariants.{Verbatim}
-use Rattle.escapes.proofs.Braces.{next_digit_at, close_at, end_at, no_name_at, digit, underscore, no_digit, large, close_seen, close_unseen}
+use Rattle.escapes.proofs.Braces.{read_on, next_digit_at, close_at, end_at, no_name_at, digit_on, underscore_on, no_digit_on, large, close_seen, close_unseen}
 use Rattle.escapes.proofs.braced_number.Goals as goal
-
-pub loop-i-init : goal.loop-i-init
-loop-i-init c = (omega arith, omega arith, omega arith, refl)
+use Rattle.std.specs.Prelude.{None, Some}
 
 pub loop-i-preserved-then-b-eq95 : goal.loop-i-preserved-then-b-eq95
 loop-i-preserved-then-b-eq95 c =
     let l = c.loop-i in
     let a = c.args in
     let n : l.i + 1 - a.from ≡ l.i - a.from + 1 = omega arith in
-    (omega arith, omega arith, l.invariant.2, rw n (sym (next_digit_at a.s.now l.i (l.i - a.from) (numbered l.seen l.value) (numbered l.seen l.value) (omega arith) (λ e. omega (arith, c.if-b-eq95.true)) (underscore _ l.seen l.value c.if-b-eq95.true)) ∙ l.invariant.3))
+    (l.invariant.0, rw n (sym (next_digit_at a.s.now l.i (l.i - a.from) (read_on l.value) (read_on l.value) (omega arith) (λ e. omega (arith, c.if-b-eq95.true)) (underscore_on _ l.value c.if-b-eq95.true)) ∙ l.invariant.1))
 
-pub char_or-requires : goal.char_or-requires
-char_or-requires c = c.loop-i.invariant.2
+pub returns-in-Some : goal.returns-in-Some
+returns-in-Some c =
+    let l = c.loop-i in
+    let a = c.args in
+    let v = c.in-Some.v in
+    let n : l.i + 1 - a.from ≡ l.i - a.from + 1 = omega arith in
+    c.char_or.ensures
+    ∙ ap (λ k. char_or (if_scalar (Some v)) k) n
+    ∙ sym (close_at a.s.now l.i (l.i - a.from) (numbered true v) (omega arith) c.if-b-eq125.true ∙ close_seen true v _ refl)
+    ∙ (rw c.in-Some.is at l.invariant.1)
 
-pub returns-then-seen : goal.returns-then-seen
-returns-then-seen c =
+pub returns-in-None : goal.returns-in-None
+returns-in-None c =
     let l = c.loop-i in
     let a = c.args in
     let n : l.i + 1 - a.from ≡ l.i - a.from + 1 = omega arith in
-    c.char_or.ensures ∙ ap (λ k. char_or (if_scalar (some l.value)) k) n ∙ sym (close_at a.s.now l.i (l.i - a.from) (numbered l.seen l.value) (omega arith) c.if-b-eq125.true ∙ close_seen _ _ _ c.if-seen.true) ∙ l.invariant.3
+    ap Verbatim n
+    ∙ sym (close_at a.s.now l.i (l.i - a.from) (numbered false 0) (omega arith) c.if-b-eq125.true ∙ close_unseen false 0 _ refl)
+    ∙ (rw c.in-None.is at l.invariant.1)
 
-pub returns-then-b-eq125 : goal.returns-then-b-eq125
-returns-then-b-eq125 c =
+pub returns-in_default : goal.returns-in_default
+returns-in_default c =
     let l = c.loop-i in
     let a = c.args in
-    let n : l.i + 1 - a.from ≡ l.i - a.from + 1 = omega arith in
-    ap Verbatim n ∙ sym (close_at a.s.now l.i (l.i - a.from) (numbered l.seen l.value) (omega arith) c.if-b-eq125.true ∙ close_unseen _ _ _ c.if-seen.false) ∙ l.invariant.3
-
-pub stand-requires : goal.stand-requires
-stand-requires c = (c.loop-i.invariant.0, c.loop-i.invariant.1)
-
-pub returns-then-d-ge16 : goal.returns-then-d-ge16
-returns-then-d-ge16 c =
-    let l = c.loop-i in
-    let a = c.args in
-    let e : hex_digit (get_or a.s.now l.i 0) ≡ none = c.hex_at-d.ensures.0 ∙ rw (le-ltb _ 16 c.if-d-ge16.true) refl in
-    c.stand.ensures ∙ sym (no_name_at a.s.now l.i (l.i - a.from) (numbered l.seen l.value) (omega arith) c.if-b-eq125.false (no_digit _ l.seen l.value c.if-b-eq95.false e)) ∙ l.invariant.3
-
-pub stand-requires-then-next-ge1114112 : goal.stand-requires-then-next-ge1114112
-stand-requires-then-next-ge1114112 c = (c.loop-i.invariant.0, c.loop-i.invariant.1)
+    let e : hex_digit (get_or a.s.now l.i 0) ≡ None = sym c.hex_at.ensures.value ∙ c.in_default.is in
+    c.stand.ensures
+    ∙ sym (no_name_at a.s.now l.i (l.i - a.from) (read_on l.value) (omega arith) c.if-b-eq125.false (no_digit_on _ l.value c.if-b-eq95.false e))
+    ∙ l.invariant.1
 
 pub returns-then-next-ge1114112 : goal.returns-then-next-ge1114112
 returns-then-next-ge1114112 c =
     let l = c.loop-i in
     let a = c.args in
-    let h = c.hex_at-d in
-    let e : hex_digit (get_or a.s.now l.i 0) ≡ some h.result = h.ensures.0 ∙ rw (lt-ltb _ 16 c.if-d-ge16.false) refl in
-    c.stand-then-next-ge1114112.ensures ∙ sym (no_name_at a.s.now l.i (l.i - a.from) (numbered l.seen l.value) (omega arith) c.if-b-eq125.false (λ r. digit _ l.seen l.value h.result e r ∙ large _ c.if-next-ge1114112.true r)) ∙ l.invariant.3
+    let e : hex_digit (get_or a.s.now l.i 0) ≡ Some c.in-Some-hex_at.d = sym c.hex_at.ensures.value ∙ c.in-Some-hex_at.is in
+    let u = c.unwrap_or.ensures in
+    c.stand-then-next-ge1114112.ensures
+    ∙ sym (no_name_at a.s.now l.i (l.i - a.from) (read_on l.value) (omega arith) c.if-b-eq125.false (λ r. digit_on _ l.value c.in-Some-hex_at.d e r ∙ large _ (omega arith) r))
+    ∙ l.invariant.1
 
 pub loop-i-preserved : goal.loop-i-preserved
 loop-i-preserved c =
     let l = c.loop-i in
     let a = c.args in
-    let h = c.hex_at-d in
-    let e : hex_digit (get_or a.s.now l.i 0) ≡ some h.result = h.ensures.0 ∙ rw (lt-ltb _ 16 c.if-d-ge16.false) refl in
+    let d = c.in-Some-hex_at.d in
+    let e : hex_digit (get_or a.s.now l.i 0) ≡ Some d = sym c.hex_at.ensures.value ∙ c.in-Some-hex_at.is in
     let n : l.i + 1 - a.from ≡ l.i - a.from + 1 = omega arith in
-    (omega arith, omega arith, c.if-next-ge1114112.false, rw n (sym (next_digit_at a.s.now l.i (l.i - a.from) (numbered l.seen l.value) (numbered true (l.value * 16 + h.result)) (omega arith) c.if-b-eq125.false (digit _ l.seen l.value h.result e)) ∙ l.invariant.3))
+    (c.if-next-ge1114112.false, rw n (rw c.unwrap_or.ensures (sym (next_digit_at a.s.now l.i (l.i - a.from) (read_on l.value) _ (omega arith) c.if-b-eq125.false (digit_on _ l.value d e)) ∙ l.invariant.1)))
 
 pub returns : goal.returns
 returns c =
     let l = c.loop-i in
     let a = c.args in
-    sym (end_at a.s.now l.i (l.i - a.from) (numbered l.seen l.value) (omega arith)) ∙ l.invariant.3
+    ap (λ k. Verbatim (k - a.from)) (omega arith) ∙ sym (end_at a.s.now l.i (l.i - a.from) (read_on l.value) (omega arith)) ∙ l.invariant.1

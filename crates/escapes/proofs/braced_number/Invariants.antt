@@ -2,14 +2,13 @@
 -- Assumes nothing.
 use mathlib.Core.Path.{◌≡◌}
 use mathlib.Core.Bool.{false}
-use Prim.Native.Nat.{◌-◌, ◌≤◌, ◌<◌}
-use lib.ListN.{length, drop}
+use Prim.Native.Nat.{◌-◌, ◌<◌}
+use lib.ListN.{drop}
+use Rattle.std.specs.Prelude.{IfSome}
 use Rattle.escapes.specs.Walk.{braces, numbered}
+use Rattle.escapes.proofs.Braces.{read_on}
 use Rattle.escapes.proofs.braced_number.Given as goal
 
 abbrev pub invariant-loop-i : goal.invariant-loop-i
 invariant-loop-i l =
-    (l.from ≤ l.i) × (l.i ≤ length l.s) × (l.value < 0x110000) × (braces (numbered l.seen l.value) (l.i - l.from) (drop l.i l.s) ≡ braces (numbered false 0) (l.at - l.from) (drop l.at l.s))
-
-abbrev pub decreases-loop-i : goal.decreases-loop-i
-decreases-loop-i l = length l.s - l.i
+    IfSome l.value (λ v. v < 0x110000) × (braces (read_on l.value) (l.i - l.from) (drop l.i l.s) ≡ braces (numbered false 0) (l.at - l.from) (drop l.at l.s))

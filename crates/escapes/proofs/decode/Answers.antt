@@ -1,8 +1,6 @@
 -- `escapes::decode` meets its contract: one law for each answer. Just the bytes that are needed are lent, so the rest is as it was.
 -- Assumes nothing.
 use mathlib.Core.Path.{sym, ◌∙◌}
-use native.Mathlib.Omega.{arith}
-use lib.Seq.{length-take-le}
 use Rattle.escapes.proofs.Entry.{decode_too_long, no_utf8, decode_no_room, decode_written}
 use Rattle.escapes.proofs.decode.Goals as goal
 
@@ -20,13 +18,6 @@ pub returns-then-out-n : goal.returns-then-out-n
 returns-then-out-n c =
     let a = c.args in
     decode_no_room a.text.now a.out.now (sym c.text_fits.ensures ∙ c.if-not-text_fits.false) (sym c.is_utf8.ensures ∙ c.if-not-is_utf8.false) c.unescaped_length-n.result c.unescaped_length-n.ensures c.if-out-n.true
-
-pub slice_bounds-append_unescaped-end-2 : goal.slice_bounds-append_unescaped-end-2
-slice_bounds-append_unescaped-end-2 c = sym (length-take-le c.unescaped_length-n.result c.args.out.now c.if-out-n.false)
-
-pub append_unescaped-requires : goal.append_unescaped-requires
-append_unescaped-requires c =
-    omega (arith, length-take-le c.unescaped_length-n.result c.args.out.now c.if-out-n.false, c.unescaped_length-n.ensures)
 
 pub returns : goal.returns
 returns c =

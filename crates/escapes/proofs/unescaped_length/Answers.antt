@@ -1,6 +1,8 @@
 -- `escapes::unescaped_length` meets its contract. The loop's invariant: what was counted, and the length of what is left, make up the whole.
 -- Assumes nothing.
-use mathlib.Core.Path.{◌≡◌, sym, ap, ◌∙◌}
+use mathlib.Core.Path.{◌≡◌, refl, sym, ap, ◌∙◌}
+use mathlib.Core.Bool.{true}
+use Rattle.std.specs.Prelude.{None, Option, Some, is_some}
 use mathlib.Core.List.{List}
 use Prim.Native.Nat.{ℕ, ◌+◌, ◌≤◌, ◌<◌}
 use native.Mathlib.Omega.{arith}
@@ -16,9 +18,14 @@ use Rattle.escapes.proofs.unescaped_length.Goals as goal
 
 -- a place of the text that is a backslash: where its escape ends, and how long what it stands for is
 module _ (s : List ℕ) (i : ℕ) (h : i < length s) (b : get_or s i 0 ≡ code "\\") where
-  short-sized : (c : ℕ) → c ≡ short_of (get_or s (i + 1) 0) → c < 128
+  short-sized : is_some (short_of (get_or s (i + 1) 0)) ≡ true
       → (i + 2 ≤ length s) × (length (unescape (drop i s)) ≡ 1 + length (unescape (drop (i + 2) s)))
-  short-sized c e l = (short_ends s i h b c e l, short_size s i h b c e l)
+  short-sized t = go (short_of (get_or s (i + 1) 0)) refl t
+    where
+      go : (o : Option ℕ) → short_of (get_or s (i + 1) 0) ≡ o → is_some o ≡ true
+          → (i + 2 ≤ length s) × (length (unescape (drop i s)) ≡ 1 + length (unescape (drop (i + 2) s)))
+      go (Some c) e t = (short_ends s i h b c e, short_size s i h b c e)
+      go None e t = cc
 
   sized : (v n : ℕ) → escape_at (drop (i + 1) s) ≡ Char v n
       → (i + 1 + n ≤ length s) × (length (unescape (drop i s)) ≡ length (encode v) + length (unescape (drop (i + 1 + n) s)))
@@ -27,12 +34,6 @@ module _ (s : List ℕ) (i : ℕ) (h : i < length s) (b : get_or s i 0 ≡ code 
   left : (n : ℕ) → escape_at (drop (i + 1) s) ≡ Verbatim n
       → (i + 1 + n ≤ length s) × (length (unescape (drop i s)) ≡ 1 + n + length (unescape (drop (i + 1 + n) s)))
   left n f = (verbatim_ends s i h b n f, verbatim_size s i h b n f)
-
-pub loop-i-init : goal.loop-i-init
-loop-i-init c = (omega arith, omega arith)
-
-pub overflow_sub-count : goal.overflow_sub-count
-overflow_sub-count c = omega (arith, c.plain_run-stop.ensures)
 
 pub overflow_add-count : goal.overflow_add-count
 overflow_add-count c =
@@ -55,23 +56,15 @@ loop-i-preserved-then-s-i-ne92 c =
     let r = c.plain_run-stop in
     (run_ends a.s.now l.i r.result r.ensures l.invariant.0, omega (arith, run_size a.s.now l.i r.result r.ensures l.invariant.0, l.invariant.1))
 
-pub overflow_add-count-then-short_at-lt128 : goal.overflow_add-count-then-short_at-lt128
-overflow_add-count-then-short_at-lt128 c =
-    let z = short-sized c.args.s.now c.loop-i.i c.loop-i-test.true c.if-s-i-ne92.false _ c.short_at.ensures c.if-short_at-lt128.true in
+pub overflow_add-count-then-is_some : goal.overflow_add-count-then-is_some
+overflow_add-count-then-is_some c =
+    let z = short-sized c.args.s.now c.loop-i.i c.loop-i-test.true c.if-s-i-ne92.false (ap is_some (sym c.short_at.ensures) ∙ sym c.is_some.ensures ∙ c.if-is_some.true) in
     let l = c.loop-i in omega (arith, z.1, l.invariant.1, unescape_length c.args.s.now, c.well_formed)
 
-pub loop-i-smaller-then-short_at-lt128 : goal.loop-i-smaller-then-short_at-lt128
-loop-i-smaller-then-short_at-lt128 c =
-    let z = short-sized c.args.s.now c.loop-i.i c.loop-i-test.true c.if-s-i-ne92.false _ c.short_at.ensures c.if-short_at-lt128.true in
-    omega (arith, z.0, c.loop-i-test.true)
-
-pub loop-i-preserved-then-short_at-lt128 : goal.loop-i-preserved-then-short_at-lt128
-loop-i-preserved-then-short_at-lt128 c =
-    let z = short-sized c.args.s.now c.loop-i.i c.loop-i-test.true c.if-s-i-ne92.false _ c.short_at.ensures c.if-short_at-lt128.true in
+pub loop-i-preserved-then-is_some : goal.loop-i-preserved-then-is_some
+loop-i-preserved-then-is_some c =
+    let z = short-sized c.args.s.now c.loop-i.i c.loop-i-test.true c.if-s-i-ne92.false (ap is_some (sym c.short_at.ensures) ∙ sym c.is_some.ensures ∙ c.if-is_some.true) in
     let l = c.loop-i in (z.0, omega (arith, z.1, l.invariant.1))
-
-pub escape_at-requires : goal.escape_at-requires
-escape_at-requires c = omega (arith, c.loop-i-test.true)
 
 pub overflow_add-count-in-Char : goal.overflow_add-count-in-Char
 overflow_add-count-in-Char c =
@@ -82,11 +75,6 @@ pub overflow_add-i-in-Char-2 : goal.overflow_add-i-in-Char-2
 overflow_add-i-in-Char-2 c =
     let z = sized c.args.s.now c.loop-i.i c.loop-i-test.true c.if-s-i-ne92.false c.in-Char.c c.in-Char.n (sym c.escape_at.ensures ∙ c.in-Char.is) in
     omega (arith, z.0)
-
-pub loop-i-smaller-in-Char : goal.loop-i-smaller-in-Char
-loop-i-smaller-in-Char c =
-    let z = sized c.args.s.now c.loop-i.i c.loop-i-test.true c.if-s-i-ne92.false c.in-Char.c c.in-Char.n (sym c.escape_at.ensures ∙ c.in-Char.is) in
-    omega (arith, z.0, c.loop-i-test.true)
 
 pub loop-i-preserved-in-Char : goal.loop-i-preserved-in-Char
 loop-i-preserved-in-Char c =
@@ -107,11 +95,6 @@ pub overflow_add-i-in-Verbatim-2 : goal.overflow_add-i-in-Verbatim-2
 overflow_add-i-in-Verbatim-2 c =
     let z = left c.args.s.now c.loop-i.i c.loop-i-test.true c.if-s-i-ne92.false c.in-Verbatim.n (sym c.escape_at.ensures ∙ c.in-Verbatim.is) in
     omega (arith, z.0)
-
-pub loop-i-smaller : goal.loop-i-smaller
-loop-i-smaller c =
-    let z = left c.args.s.now c.loop-i.i c.loop-i-test.true c.if-s-i-ne92.false c.in-Verbatim.n (sym c.escape_at.ensures ∙ c.in-Verbatim.is) in
-    omega (arith, z.0, c.loop-i-test.true)
 
 pub loop-i-preserved : goal.loop-i-preserved
 loop-i-preserved c =

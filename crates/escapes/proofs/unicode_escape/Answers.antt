@@ -5,22 +5,12 @@ use mathlib.Core.Bool.{false}
 use Prim.Native.Char.{code}
 use Prim.Native.Nat.{ℕ, ◌+◌, ◌-◌}
 use native.Mathlib.Omega.{arith}
-use lib.ListN.{drop, get_or, get_or-eq_default}
+use lib.ListN.{drop, get_or}
 use Rattle.escapes.specs.Unescape.{named}
 use Rattle.escapes.specs.Walk.{braces, unnamed, numbered}
 use Rattle.escapes.proofs.Braces.{next_digit_at, no_name_at, end_at, first_underscore, first_plus, first_at}
-use Rattle.escapes.proofs.Escapes.{no_brace, brace}
+use Rattle.escapes.proofs.Escapes.{brace}
 use Rattle.escapes.proofs.unicode_escape.Goals as goal
-
-pub returns-then-s-open : goal.returns-then-s-open
-returns-then-s-open c =
-    let a = c.args in
-    sym (no_brace a.s.now a.from (λ e. omega (arith, get_or-eq_default a.s.now 0 c.if-s-open.true)))
-
-pub returns-then-s-open-ne123 : goal.returns-then-s-open-ne123
-returns-then-s-open-ne123 c =
-    let a = c.args in
-    sym (no_brace a.s.now a.from c.if-s-open-ne123.true)
 
 pub returns-then-s-first : goal.returns-then-s-first
 returns-then-s-first c =

@@ -1,15 +1,7 @@
 -- `numbers::ends_in_exponent` meets its contract: each return cites the law of its tests. Assumes nothing.
 use Rattle.std.proofs.Common.{sym, ◌∙◌}
-use Rattle.numbers.proofs.ExponentLaws.{tail_end, tail_other, tail_no_digits, tail_digits}
+use Rattle.numbers.proofs.ExponentLaws.{tail_no_digits, tail_digits}
 use Rattle.numbers.proofs.ends_in_exponent.Goals as goal
-
-pub returns-then-s-from : goal.returns-then-s-from
-returns-then-s-from c = let a = c.args in sym (tail_end a.s.now a.from c.if-s-from.true)
-
-pub returns-then-not-is_exponent_letter : goal.returns-then-not-is_exponent_letter
-returns-then-not-is_exponent_letter c =
-    let a = c.args in
-    sym (tail_other a.s.now a.from c.if-s-from.false (sym c.is_exponent_letter.ensures ∙ c.if-not-is_exponent_letter.true))
 
 pub returns-then-end-start : goal.returns-then-end-start
 returns-then-end-start c =

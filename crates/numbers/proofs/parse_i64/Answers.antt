@@ -7,16 +7,16 @@ use Rattle.numbers.proofs.parse_i64.Goals as goal
 pub returns-then-s-eq0 : goal.returns-then-s-eq0
 returns-then-s-eq0 c = i64_empty c.args.s.now c.if-s-eq0.true
 
-pub returns-in_default : goal.returns-in_default
-returns-in_default c =
+pub returns-in_err-n : goal.returns-in_err-n
+returns-in_err-n c =
     let s = c.args.s.now in
-    i64_minus_none s (omega arith) c.if-s-eq45.true (sym c.magnitude.ensures ∙ c.in_default.is)
+    c.from_residual.ensures ∙ i64_minus_none s (omega arith) c.if-s-eq45.true (sym c.magnitude.ensures ∙ c.in_err-n.was)
 
 pub returns-then-s-eq45 : goal.returns-then-s-eq45
 returns-then-s-eq45 c =
-    let w = c.wrapping_sub_u64 in
+    let w = c.wrapping_neg in
     let s = c.args.s.now in
-    i64_minus_is s c.in-Is.n w.result (omega arith) c.if-s-eq45.true (sym c.magnitude.ensures ∙ c.in-Is.is) (omega arith) w.ensures.value
+    i64_minus_is s c.in_ok-n.n w.result (omega arith) c.if-s-eq45.true (sym c.magnitude.ensures ∙ c.in_ok-n.was) (omega arith) w.ensures
 
 pub returns : goal.returns
 returns c =

@@ -1,22 +1,16 @@
--- `ranges::boundaries_passed` meets its contract: lo and hi bracket the place.
+-- `ranges::boundaries_passed` meets its contract: the library's search, in a table that goes up.
 -- Assumes nothing.
-use native.Mathlib.Nat.{le_trans}
-use native.Mathlib.Omega.{arith}
-use Rattle.ranges.proofs.Search.{up, down}
+use lib.Dec.{leb}
+use Rattle.std.proofs.Common.{rules}
+use Rattle.std.proofs.lemmas.List.Sorted.{IsPartitionPoint-from_clause, IsPartitionedBy-leb}
+use Rattle.ranges.proofs.Search.{ascending_rises, at_point}
 use Rattle.ranges.proofs.boundaries_passed.Goals as goal
-
-pub loop-lo-init : goal.loop-lo-init
-loop-lo-init c = record { lo_le = omega arith; hi_le = omega arith; below = λ k l. omega arith; beyond = λ k l m. omega arith }
-
-pub loop-lo-preserved-then-table-mid : goal.loop-lo-preserved-then-table-mid
-loop-lo-preserved-then-table-mid c =
-    up c.requires c.loop-lo.invariant _ (omega arith) (omega arith) c.if-table-mid.true
-
-pub loop-lo-preserved : goal.loop-lo-preserved
-loop-lo-preserved c =
-    down c.requires c.loop-lo.invariant _ (omega arith) (omega arith) c.if-table-mid.false
 
 pub returns : goal.returns
 returns c =
-    let inv = c.loop-lo.invariant in
-    record { within = omega arith; below = inv.below; above = λ k l m. inv.beyond k (le_trans c.loop-lo-test.false l) m }
+    let a = c.args.table.now in
+    let p = c.partition_point in
+    let parted = IsPartitionedBy-leb (λ n. n) a c.args.c (ascending_rises a c.requires) in
+    let point = IsPartitionPoint-from_clause (λ n. leb n c.args.c) a p.result p.ensures.partitioned parted (λ b r q k. search rules) in
+    let b = at_point a c.args.c p.result p.ensures.bound point in
+    record { within = b.hi_le; below = b.below; above = b.beyond }
