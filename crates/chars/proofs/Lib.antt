@@ -8,3 +8,4 @@ pub mod Ending
 pub mod Runs
 pub mod Spacing
 pub mod Examples
+pub mod Checking

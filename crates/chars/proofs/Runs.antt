@@ -1,14 +1,13 @@
 -- Runs of ASCII bytes: how they grow, join, and are passed by the UTF-8 check; and characters of two bytes.
 -- Assumes nothing.
-use mathlib.Core.Path.{◌≡◌, sym, ap, ◌∙◌}
+use mathlib.Core.Path.{◌≡◌, ap, ◌∙◌}
 use mathlib.Core.Bool.{Bool, true}
 use mathlib.Core.Logic.{◌⊎◌, inl}
 use mathlib.Core.List.{List}
 use Prim.Native.Nat.{ℕ, ◌+◌, ◌-◌, ◌≤◌, ◌<◌}
 use native.Mathlib.Decide.{dec_lt}
 use native.Mathlib.Omega.{arith}
-use lib.ListN.{length, get_or, take, drop, length-drop, get_or-eq_default}
-use lib.Seq.{get_or-take, get_or-drop, length-take-le}
+use lib.ListN.{length, get_or, get_or-eq_default}
 use lib.Dec.{ltb}
 use borrow.Author.Tests.{ltb-true, lt-ltb, le-ltb}
 use Rattle.chars.specs.Utf8.{char_of}
@@ -27,20 +26,6 @@ module _ (p : ℕ → Bool) (s : List ℕ) where
       go : (i : ℕ) → a ≤ i → i < c → Dec (i < b) → p (get_or s i 0) ≡ true
       go i k l (yes m) = f i k m
       go i k l (no m) = g i (omega arith) l
-
-  -- the first m of the n that stand at a place
-  pub all_part : (at n m : ℕ) → m ≤ n → AllBytes p (take n (drop at s)) 0 m → AllBytes p s at (at + m)
-  all_part at n m h f = λ i g l.
-      let j : ℕ = i - at in
-      let e : at + j ≡ i = omega arith in
-      ap p (sym (get_or-take n (drop at s) j 0 (omega arith) ∙ get_or-drop at s j 0 ∙ ap (λ (k : ℕ). get_or s k 0) e)) ∙ f j (omega arith) (omega arith)
-
-  -- all that stand from a place to another
-  pub all_block : (at end : ℕ) → at ≤ end → end ≤ length s → AllBytes p (take (end - at) (drop at s)) 0 (length (take (end - at) (drop at s))) → AllBytes p s at end
-  all_block at end h l f =
-      let e : at + (end - at) ≡ end = omega arith in
-      let n : end - at ≤ length (drop at s) = omega (arith, length-drop at s) in
-      rw e at (all_part at (end - at) (end - at) (omega arith) (λ i g m. f i g (omega (arith, length-take-le (end - at) (drop at s) n))))
 
 -- ---- ASCII
 
@@ -66,19 +51,6 @@ module _ (s : List ℕ) where
       go : (k : ℕ) → a ≤ k → k < c → Dec (k < b) → get_or s k 0 < 128
       go k g l (yes m) = p.ascii k g m
       go k g l (no m) = q.ascii k (omega arith) l
-
-  -- a block whose greatest byte is ASCII
-  pub plain_block : (at n top : ℕ) → at + n ≤ length s → top ≤ 0x7F
-      → ((i : ℕ) → i < length (take n (drop at s)) → get_or (take n (drop at s)) i 0 ≤ top) → Plain s at (at + n)
-  plain_block at n top l h f = record { forward = omega arith; ascii = λ k g m. go k g m }
-    where
-      go : (k : ℕ) → at ≤ k → k < at + n → get_or s k 0 < 128
-      go k g m =
-          let i : ℕ = k - at in
-          let e : at + i ≡ k = omega arith in
-          let r : n ≤ length (drop at s) = omega (arith, length-drop at s) in
-          let x = f i (omega (arith, length-take-le n (drop at s) r)) in
-          omega (arith, get_or-take n (drop at s) i 0 (omega arith), get_or-drop at s i 0, ap (λ (j : ℕ). get_or s j 0) e)
 
   -- the check passes it
   pub plain_advances : (at end : ℕ) → at < end → end ≤ length s → Plain s at end → Advances s at (end - at)

@@ -1,13 +1,17 @@
 // Characters: UTF-8 read and written, White_Space, and a text trimmed at both ends.
-// Every function answers on every input; bytes that are no character decode to none, and are never White_Space.
+// Every function answers on every input; bytes that are no character decode to none, and are never White_Space. `check_text` alone refuses: with
+// 2 and 3 of document 01.
 #![tactic(auto)]
 
-ghost use Rattle.std.specs.Prelude.{◌≡◌, Bool, true, List, [], ◌∷◌, ℕ, ◌+◌, ◌≤◌, ◌<◌, length, get_or, drop, MatchOption};
+ghost use Rattle.std.specs.Prelude.{◌≡◌, Bool, true, false, List, [], ◌∷◌, ℕ, ◌+◌, ◌≤◌, ◌<◌, length, get_or, drop, IfSome, MatchOption, option_copied};
 ghost use Rattle.std.specs.Fn.{FnReturnsAt};
-ghost use Rattle.buffers.specs.Wrote.{Wrote};
 ghost use Rattle.chars.specs.Utf8.{low as low_of, high as high_of, long_of, char_of, char_at, utf8, encode};
 ghost use Rattle.chars.specs.White.{white, wide_white, white_at, trim_start, trim_end, trim as trimmed, blank};
 ghost use Rattle.chars.specs.Post.{AllBytes, Plain, Advances, EndsIn, Spaces};
+ghost use Rattle.chars.specs.Checked.{text_checked};
+
+use buffers::Sink;
+use format::{Log, Refusal};
 
 // The byte at i, or 0 past the end, where no `Option` is needed: 0 continues no character.
 fn byte_at(s: &[u8], i: usize) -> u32
@@ -84,53 +88,39 @@ pub fn decode_char(s: &[u8], at: usize) -> Option<(u32, usize)>
     )
 }
 
-// How many bytes the character c takes.
-#[tactic(auto, unfolding(crate::specs::Utf8::encode))]
-pub fn char_length(c: u32) -> usize
-    ensures { (result ≡ length (encode c)) × (result ≤ 4) }
+// Puts two bytes.
+fn append_two<S: Sink>(sink: &mut S, a: u8, b: u8)
+    requires { S.room sink.old 2 }
+    ensures { S.put sink.old (a ∷ b ∷ []) sink.new }
 {
-    match c {
-        0..0x80 => 1,
-        0x80..0x800 => 2,
-        0x800..0x10000 => 3,
-        _ => 4,
-    }
+    sink.push(a);
+    sink.push(b);
 }
 
-// Appends two bytes behind the first `at`. The answer is where the text then ends.
-fn append_two(out: &mut [u8], at: usize, a: u8, b: u8) -> usize
-    requires { at + 2 ≤ length out.old }
-    ensures { Wrote out.old at out.new result (a ∷ b ∷ []) }
-{
-    let next = buffers::append_byte(out, at, a);
-    buffers::append_byte(out, next, b)
-}
-
-// Appends the character c behind the first `at`. The answer is where the text then ends. No `match`: the longer forms share their last bytes.
+// Puts the character c. No `match`: the longer forms share their last bytes.
 #[tactic(auto, using(crate::proofs::Writing::encodings))]
-pub fn append_char(out: &mut [u8], at: usize, c: u32) -> usize
-    requires { (c < 0x110000) × (at + length (encode c) ≤ length out.old) }
-    ensures { Wrote out.old at out.new result (encode c) }
+pub fn append_char<S: Sink>(sink: &mut S, c: u32)
+    requires { (c < 0x110000) × S.room sink.old (length (encode c)) }
+    ensures { S.put sink.old (encode c) sink.new }
 {
     if c < 0x80 {
-        return buffers::append_byte(out, at, c as u8);
+        return sink.push(c as u8);
     }
     let last = (0x80 + c % 64) as u8;
     if c < 0x800 {
-        return append_two(out, at, (0xc0 + c / 64) as u8, last);
+        return append_two(sink, (0xc0 + c / 64) as u8, last);
     }
     let middle = (0x80 + c / 64 % 64) as u8;
     if c < 0x10000 {
-        let end = append_two(out, at, (0xe0 + c / 4096) as u8, middle);
-        return buffers::append_byte(out, end, last);
+        append_two(sink, (0xe0 + c / 4096) as u8, middle);
+        return sink.push(last);
     }
-    let end = append_two(
-        out,
-        at,
+    append_two(
+        sink,
         (0xf0 + c / 262144) as u8,
         (0x80 + c / 4096 % 64) as u8,
     );
-    append_two(out, end, middle, last)
+    append_two(sink, middle, last);
 }
 
 // No byte of s is above the answer.
@@ -152,13 +142,11 @@ fn blocks_end<const N: usize, F: Fn(&[u8]) -> bool>(s: &[u8], at: usize, passes:
         → AllBytes p s.now at result }
 {
     let mut i = at;
-    // no `for`: whole blocks alone are passed, up to the first that does not pass
-    while N <= s.len() - i {
-        let end = i + N;
-        if !passes(&s[i..end]) {
+    for block in s[at..].chunks_exact(N) {
+        if !passes(block) {
             return i;
         }
-        i = end;
+        i += N;
     }
     i
 }
@@ -168,10 +156,7 @@ fn plain_end(s: &[u8], at: usize, limit: usize) -> usize
     requires { (at ≤ limit) × (limit ≤ length s.now) }
     ensures { Plain s.now at result × (result ≤ limit) }
 {
-    match s[at..limit].iter().position(|&b| 0x7f < b) {
-        Some(n) => at + n,
-        None => limit,
-    }
+    buffers::find_from(&s[..limit], at, |b| 0x7f < b)
 }
 
 // Where the ASCII bytes from `at` on end: short runs byte by byte, and blocks only where a run is long.
@@ -258,48 +243,47 @@ fn is_wide_white(c: u32) -> bool
     )
 }
 
-// Is b ASCII and past the space? No White_Space character begins or ends with such a byte.
-fn is_past_space(b: u8) -> bool
-    ensures { result ≡ true → (32 < b) × (b < 128) }
+// Is there a byte, in ASCII and past the space? No White_Space character begins or ends with such a byte.
+fn is_past_space(b: Option<&u8>) -> bool
+    ensures { result ≡ true → MatchOption (option_copied b.entry) ⊥ (λ a. (32 < a) × (a < 128)) }
 {
-    matches!(b, b'!'..=0x7f)
+    matches!(b, Some(b'!'..=0x7f))
 }
 
-// How many bytes the White_Space character takes that the text begins with; 0 where it begins with none. A space, and
-// what comes behind it in ASCII, is decided in place.
-#[tactic(auto, using(crate::proofs::Ending::white_empty, crate::proofs::Spacing::begins_past, crate::proofs::Spacing::begins_space))]
-pub fn white_width(s: &[u8]) -> usize
-    ensures value { result ≡ white_at s.now }
-    ensures upper_bound { result ≤ length s.now }
+// How many bytes the White_Space character takes that the text begins with. A space, and what comes behind it in ASCII, is decided in place.
+#[tactic(auto, using(crate::proofs::Ending::white_empty, crate::proofs::Spacing::begins_at, crate::proofs::Spacing::begins_space))]
+pub fn white_width(s: &[u8]) -> Option<usize>
+    ensures value { MatchOption result (white_at s.now ≡ 0) (λ n. (0 < n) × (white_at s.now ≡ n)) }
+    ensures upper_bound { IfSome result (λ n. n ≤ length s.now) }
 {
     match s.first() {
-        None => 0,
-        Some(&b) if is_past_space(b) => 0,
-        Some(b' ') => 1,
+        None => None,
+        b if is_past_space(b) => None,
+        Some(b' ') => Some(1),
         Some(_) => wide_width(s),
     }
 }
 
 // The same, by decoding the character.
-#[tactic(auto, using(crate::proofs::Reading::char_whole), unfolding(crate::specs::White::white_at))]
-fn wide_width(s: &[u8]) -> usize
-    ensures value { result ≡ white_at s.now }
-    ensures upper_bound { result ≤ length s.now }
+#[tactic(auto, using(crate::proofs::Reading::char_whole, crate::proofs::Reading::nonempty), unfolding(crate::specs::White::white_at))]
+fn wide_width(s: &[u8]) -> Option<usize>
+    ensures value { MatchOption result (white_at s.now ≡ 0) (λ n. (0 < n) × (white_at s.now ≡ n)) }
+    ensures upper_bound { IfSome result (λ n. n ≤ length s.now) }
 {
     match decode_char(s, 0) {
-        Some((c, n)) if is_white(c) => n,
-        _ => 0,
+        Some((c, n)) if is_white(c) => Some(n),
+        _ => None,
     }
 }
 
 // How many bytes the White_Space character takes that the text ends in. A space, and what comes behind it in ASCII, is decided in place.
-#[tactic(auto, using(crate::proofs::Spacing::ends_past, crate::proofs::Spacing::ends_space))]
+#[tactic(auto, using(crate::proofs::Spacing::ends_at, crate::proofs::Spacing::ends_space))]
 fn white_end(s: &[u8]) -> Option<usize>
     ensures { MatchOption result (EndsIn s.now 0) (λ n. (0 < n) × EndsIn s.now n) }
 {
     match s.last() {
         None => None,
-        Some(&b) if is_past_space(b) => None,
+        b if is_past_space(b) => None,
         Some(b' ') => Some(1),
         Some(_) => wide_end(s),
     }
@@ -311,33 +295,11 @@ fn wide_end(s: &[u8]) -> Option<usize>
     ensures { MatchOption result (EndsIn s.now 0) (λ n. (0 < n) × EndsIn s.now n) }
 {
     for n in 1..=s.len().min(3) {
-        if wide_width(&s[s.len() - n..]) == n {
+        if wide_width(&s[s.len() - n..]) == Some(n) {
             return Some(n);
         }
     }
     None
-}
-
-// Does s begin with a byte past the space?
-#[tactic(auto, using(crate::proofs::Spacing::begins_past))]
-fn begins_past_space(s: &[u8]) -> bool
-    ensures { result ≡ true → white_at s.now ≡ 0 }
-{
-    match s.first() {
-        Some(&b) => is_past_space(b),
-        None => false,
-    }
-}
-
-// Does s end with one?
-#[tactic(auto, using(crate::proofs::Spacing::ends_past))]
-fn ends_past_space(s: &[u8]) -> bool
-    ensures { result ≡ true → EndsIn s.now 0 }
-{
-    match s.last() {
-        Some(&b) => is_past_space(b),
-        None => false,
-    }
 }
 
 // Does s begin with one space and a byte past it?
@@ -346,7 +308,7 @@ fn begins_with_one(s: &[u8]) -> bool
     ensures { result ≡ true → (1 ≤ length s.now) × (trim_start s.now ≡ drop 1 s.now) }
 {
     match s {
-        [b' ', b, ..] => is_past_space(*b),
+        [b' ', rest @ ..] => is_past_space(rest.first()),
         _ => false,
     }
 }
@@ -371,10 +333,7 @@ fn spaces_end(s: &[u8]) -> usize
     ensures { Spaces s.now result × (result ≤ length s.now) }
 {
     let far = blocks_end::<16, _>(s, 0, |block| others_in(block) == 0);
-    match s[far..].iter().position(|&b| b != b' ') {
-        Some(n) => far + n,
-        None => s.len(),
-    }
+    buffers::find_from(s, far, |b| b != b' ')
 }
 
 // Without the White_Space at the start, character by character behind the spaces.
@@ -382,16 +341,12 @@ fn spaces_end(s: &[u8]) -> usize
 fn strip_start(s: &[u8]) -> &[u8]
     ensures { result.now ≡ trim_start s.now }
 {
-    let at = spaces_end(s);
-    let mut t = &s[at..];
+    let mut t = &s[spaces_end(s)..];
     // no `for`: a character of up to four bytes is passed in one step
-    loop {
-        let n = white_width(t);
-        if n == 0 {
-            return t;
-        }
+    while let Some(n) = white_width(t) {
         t = &t[n..];
     }
+    t
 }
 
 // Without the White_Space at the end, character by character.
@@ -414,11 +369,11 @@ fn strip(s: &[u8]) -> &[u8]
 }
 
 // Without the White_Space at the start. Most texts begin with none, or with one space: these are answered in place.
-#[tactic(auto, using(crate::proofs::Trimming::trim_start_stays))]
+#[tactic(auto, using(crate::proofs::Trimming::trim_start_stays, crate::proofs::Spacing::begins_at))]
 pub fn trim_start(s: &[u8]) -> &[u8]
     ensures { result.now ≡ trim_start s.now }
 {
-    if begins_past_space(s) {
+    if is_past_space(s.first()) {
         return s;
     }
     if begins_with_one(s) {
@@ -428,34 +383,58 @@ pub fn trim_start(s: &[u8]) -> &[u8]
 }
 
 // Without the White_Space at the end.
-#[tactic(auto, using(crate::proofs::Trimming::trim_end_stays))]
+#[tactic(auto, using(crate::proofs::Spacing::trim_end_past))]
 pub fn trim_end(s: &[u8]) -> &[u8]
     ensures { result.now ≡ trim_end s.now }
 {
-    if ends_past_space(s) {
+    if is_past_space(s.last()) {
         return s;
     }
     strip_end(s)
 }
 
 // Without the White_Space at both ends: `str::trim`.
-#[tactic(auto, using(crate::proofs::Trimming::trim_stays))]
+#[tactic(auto, using(crate::proofs::Spacing::trim_past))]
 pub fn trim(s: &[u8]) -> &[u8]
     ensures { result.now ≡ trimmed s.now }
 {
-    if begins_past_space(s) && ends_past_space(s) {
+    if is_past_space(s.first()) && is_past_space(s.last()) {
         return s;
     }
     strip(s)
 }
 
 // Is there nothing but White_Space?
-#[tactic(auto, using(crate::proofs::Spacing::begins_past, crate::proofs::Spacing::past_not_blank))]
+#[tactic(auto, using(crate::proofs::Spacing::begins_at, crate::proofs::Spacing::past_not_blank))]
 pub fn is_blank(s: &[u8]) -> bool
     ensures { result ≡ blank s.now }
 {
-    match s.first() {
-        Some(&b) if is_past_space(b) => false,
-        _ => strip(s).is_empty(),
+    !is_past_space(s.first()) && strip(s).is_empty()
+}
+
+// The limits on a whole text, in the order in which they are refused: its length, and that it is UTF-8.
+pub fn check_text(s: &[u8]) -> Result<(), Refusal>
+    ensures { result ≡ text_checked s.now }
+{
+    if !Log::text_fits(s.len()) {
+        return Err(Refusal::TextTooLong);
     }
+    if !is_utf8(s) {
+        return Err(Refusal::NotUtf8);
+    }
+    Ok(())
+}
+
+// A line without the White_Space at both ends; none where there is nothing else. An empty line is answered in place: a log may have many.
+pub fn trim_line(s: &[u8]) -> Option<&[u8]>
+    ensures { MatchOption result (blank s.now ≡ true) (λ t. (blank s.now ≡ false) × (t.now ≡ trimmed s.now)) }
+{
+    if s.len() == 0 {
+        return None;
+    }
+    let start = trim_start(s);
+    if start.len() == 0 {
+        return None;
+    }
+    Some(trim_end(start))
 }

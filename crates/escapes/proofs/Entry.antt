@@ -1,17 +1,19 @@
 -- The entry point's answer, test by test, and the output that goes with it.
 -- Assumes nothing.
 use mathlib.Core.Path.{◌≡◌, sym, ap, ◌∙◌}
-use mathlib.Core.Bool.{true, false}
+use mathlib.Core.Bool.{true}
 use mathlib.Core.List.{List, ◌++◌}
 use Prim.Native.Nat.{ℕ, ◌≤◌, ◌<◌}
 use native.Mathlib.Omega.{arith}
 use lib.Dec.{leb}
-use lib.ListN.{length, take, drop}
-use lib.Seq.{take_all, length-take-le}
+use lib.ListN.{length, drop}
 use borrow.Author.Tests.{le-leb, lt-leb}
 use Rattle.buffers.specs.Wrote.{Wrote}
+use Rattle.buffers.proofs.Appending.{wrote_all}
 use Rattle.format.specs.Limits.{text_limit}
-use Rattle.format.specs.Refusals.{text_too_long, not_utf8, output_too_short}
+use Rattle.format.specs.Refusals.{output_too_short}
+use Rattle.chars.specs.Checked.{text_checked}
+use Rattle.chars.proofs.Checking.{stopped}
 use Rattle.chars.specs.Utf8.{utf8}
 use Rattle.escapes.specs.Unescape.{unescape}
 use Rattle.escapes.specs.Entry.{decoded, filled, output_after}
@@ -27,15 +29,12 @@ module _ (text output : List ℕ) where
   refused : (k : Refusal) → decoded text (length output) ≡ Err k → DecodeAnswers text output (Err k) output
   refused k e = (sym e, sym (ap (filled text output) e))
 
-  pub decode_too_long : leb (length text) text_limit ≡ false → DecodeAnswers text output (Err text_too_long) output
+  -- refused as any text is
+  pub decode_stopped : {k : Refusal} → Err k ≡ text_checked text → DecodeAnswers text output (Err k) output
   unfolding decoded
-  decode_too_long l = refused text_too_long (rw l)
+  decode_stopped {k} h = refused k (sym (stopped text Err _ h))
 
   module _ (l : leb (length text) text_limit ≡ true) where
-    pub no_utf8 : utf8 text ≡ false → DecodeAnswers text output (Err not_utf8) output
-    unfolding decoded
-    no_utf8 u = refused not_utf8 (rw (l, u))
-
     module _ (u : utf8 text ≡ true) (n : ℕ) (e : n ≡ length (unescape text)) where
       pub decode_no_room : length output < n → DecodeAnswers text output (Err output_too_short) output
       unfolding decoded
@@ -45,11 +44,7 @@ module _ (text output : List ℕ) where
       unfolding decoded
       fits h = rw (l, u, le-leb (length (unescape text)) (length output) (omega arith)) (ap Ok (sym e))
 
-      -- the output's first n bytes were lent, and came back as `front`
-      pub decode_written : (front : List ℕ) (end : ℕ) → n ≤ length output → length front ≡ length (take n output)
-          → Wrote (take n output) 0 front end (unescape text) → DecodeAnswers text output (Ok n) (front ++ drop n output)
-      decode_written front end h k w =
-          (sym (fits h), ap (λ (t : List ℕ). t ++ drop n output) whole ∙ sym (ap (filled text output) (fits h)))
-        where
-          whole : front ≡ unescape text
-          whole = sym (take_all end front (omega (arith, w.ends, length-take-le n output h))) ∙ w.stands
+      -- the text was written at the output's start
+      pub decode_written : (after : List ℕ) (end : ℕ) → n ≤ length output → Wrote output 0 after end (unescape text) → DecodeAnswers text output (Ok n) after
+      decode_written after end h w =
+          (sym (fits h), wrote_all w ∙ ap (λ (m : ℕ). unescape text ++ drop m output) (omega (arith, w.ends)) ∙ sym (ap (filled text output) (fits h)))

@@ -4,12 +4,12 @@
 #![tactic(auto)]
 
 ghost use Rattle.std.specs.Prelude.{Some, IfSome, ◌≡◌, false, ◌+◌, ◌-◌, ◌≤◌, ◌<◌, length, get_or, drop};
-ghost use Rattle.buffers.specs.Wrote.{Wrote};
 ghost use Rattle.escapes.specs.Unescape.{hex_digit, byte_of, if_scalar, char_or, escape_at, unescape};
 ghost use Rattle.escapes.specs.Entry.{decoded, output_after};
 ghost use Rattle.escapes.specs.Walk.{plain_run, braces, unnamed, numbered, unicode_at, short_of};
 
-use format::{Log, Refusal};
+use buffers::{Count, Sink, Writer};
+use format::Refusal;
 
 // What a backslash begins.
 #[derive(Clone, Copy)]
@@ -176,82 +176,48 @@ fn plain_run(s: &[u8], from: usize) -> usize
     s.len()
 }
 
-// Appends what s stands for behind the first `at`, where there is just room for it. The answer is where the text then ends.
-fn append_unescaped(out: &mut [u8], at: usize, s: &[u8]) -> usize
-    requires { at + length (unescape s.now) ≤ length out.old }
-    ensures { Wrote out.old at out.new result (unescape s.now) }
+// Puts what s stands for, where there is just room for it.
+fn append_unescaped<S: Sink>(sink: &mut S, s: &[u8])
+    requires { S.room sink.old (length (unescape s.now)) }
+    ensures { S.put sink.old (unescape s.now) sink.new }
 {
-    let mut end = at;
+    let mut here = sink.take();
     let mut i: usize = 0;
     // no `for`: a run or an escape is passed in one step
     while i < s.len() {
         if s[i] != b'\\' {
             let stop = plain_run(s, i);
-            end = buffers::append_bytes(out, end, &s[i..stop]);
+            here.append(&s[i..stop]);
             i = stop;
             continue;
         }
         // a short escape costs one look into a table here, and no `Escape` is made
         if let Some(code) = short_at(s, i + 1) {
-            out[end] = code;
-            end += 1;
+            here.push(code);
             i += 2;
             continue;
         }
         match escape_at(s, i) {
             Escape::Char(c, n) => {
-                end = chars::append_char(out, end, c);
+                chars::append_char(&mut here, c);
                 i = i + 1 + n;
             }
             Escape::Verbatim(n) => {
                 let stop = plain_run(s, i + 1 + n);
-                end = buffers::append_bytes(out, end, &s[i..stop]);
+                here.append(&s[i..stop]);
                 i = stop;
             }
         }
     }
-    end
+    *sink = here;
 }
 
-// Appends what s stands for behind the first `at`; a text never stands for a longer one. The answer is where the text then ends.
-pub fn unescape(out: &mut [u8], at: usize, s: &[u8]) -> usize
-    requires { at + length s.now ≤ length out.old }
-    ensures { Wrote out.old at out.new result (unescape s.now) }
+// Puts what s stands for; a text never stands for a longer one.
+pub fn unescape<S: Sink>(sink: &mut S, s: &[u8])
+    requires { S.room sink.old (length s.now) }
+    ensures { S.put sink.old (unescape s.now) sink.new }
 {
-    append_unescaped(out, at, s)
-}
-
-// How long the text is that s stands for.
-fn unescaped_length(s: &[u8]) -> usize
-    ensures { result ≡ length (unescape s.now) }
-{
-    let mut count: usize = 0;
-    let mut i: usize = 0;
-    // no `for`: a run or an escape is passed in one step
-    while i < s.len() {
-        if s[i] != b'\\' {
-            let stop = plain_run(s, i);
-            count = count + (stop - i);
-            i = stop;
-            continue;
-        }
-        if short_at(s, i + 1).is_some() {
-            count += 1;
-            i += 2;
-            continue;
-        }
-        match escape_at(s, i) {
-            Escape::Char(c, n) => {
-                count = count + chars::char_length(c);
-                i = i + 1 + n;
-            }
-            Escape::Verbatim(n) => {
-                count = count + 1 + n;
-                i = i + 1 + n;
-            }
-        }
-    }
-    count
+    append_unescaped(sink, s);
 }
 
 // Decodes the escapes of a text. The answer is how many bytes it stands for: they are the first of the output, whose rest is as it was.
@@ -260,16 +226,14 @@ fn unescaped_length(s: &[u8]) -> usize
 pub fn decode(out: &mut [u8], text: &[u8]) -> Result<usize, Refusal>
     ensures { (result ≡ decoded text.now (length out.old)) × (out.new ≡ output_after text.now out.old) }
 {
-    if !Log::text_fits(text.len()) {
-        return Err(Refusal::TextTooLong);
-    }
-    if !chars::is_utf8(text) {
-        return Err(Refusal::NotUtf8);
-    }
-    let n = unescaped_length(text);
+    chars::check_text(text)?;
+    let mut counted = Count { count: 0 };
+    unescape(&mut counted, text);
+    let n = counted.count;
     if out.len() < n {
         return Err(Refusal::OutputTooShort);
     }
-    append_unescaped(&mut out[..n], 0, text);
+    let mut writer = Writer { out, end: 0 };
+    append_unescaped(&mut writer, text);
     Ok(n)
 }

@@ -11,7 +11,7 @@ use borrow.Author.Tests.{le-leb, lt-leb}
 use Rattle.format.specs.declared.Refusal.{Refusal}
 use Rattle.format.specs.Limits.{text_limit}
 use Rattle.format.specs.Refusals.{text_too_long, not_utf8}
-use Rattle.format.specs.declared.Front.{Front}
+use Rattle.format.specs.declared.Reach.{Reach}
 use Rattle.chars.specs.Utf8.{utf8}
 use Rattle.chars.specs.White.{trim}
 use Rattle.pack.specs.Pack.{Pack}
@@ -31,7 +31,7 @@ use Rattle.std.specs.Prelude.{Err, Ok, Some}
 
 -- 1. A call of `read_line` that answers with an event: the trimmed line is read as that event by the rules (`parse_line`, written from
 -- document 01), and the tables that the call left begin with the event's pack.
-pub line_read : {s : List ℕ} {p q : Pack} {f : Front} → ReadInto s p (Ok (Some f)) q → (e : Event) × (parse_line (trim s) ≡ ok e) × (rest : Pack) × (q ≡ tables_of e rest)
+pub line_read : {s : List ℕ} {p q : Pack} {f : Reach} → ReadInto s p (Ok (Some f)) q → (e : Event) × (parse_line (trim s) ≡ ok e) × (rest : Pack) × (q ≡ tables_of e rest)
 line_read {s} w = let h = event_read w in let t = event_left_tables w h.1 in (h.0, (read_accepted s h.1).read, t.0, t.1)
 
 -- 2. A line of a log within the limits is itself within them, so reading it alone answers what it gives in its log.

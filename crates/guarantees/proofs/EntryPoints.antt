@@ -72,11 +72,11 @@ pub list_line_promised : {M : Type 1} → Promised list_line.ended ListLineCode.
     s.0.now s.1.0.now s.1.1.0.now s.1.1.1.0.now)
 list_line_promised = ListLine.met
 
--- 7. The next stretch of a log's night listing, which the program calls: `next_stretch(kinds, numbers, texts, links, scratch, order, spare,
--- out, log, place)`. `Written` gives the answer, and every byte of the output; `Onward` what a loop over the calls needs.
+-- 7. The next stretch of a log's night listing, which the program calls: `next_stretch(work, out, log, place)`. `StretchWhole` gives the
+-- answer, and every byte of the output; `Onward` what a loop over the calls needs.
 pub next_stretch_promised : {M : Type 1} → PromisedBoth next_stretch.ended NextStretchCode.code NextStretchCode.name M
-    (λ κs a r s. StretchWhole (stretch_at a.1.1.1.1.1.1.1.1.0.now a.1.1.1.1.1.1.1.1.1.0) a.1.1.1.1.1.1.1.0.now r s.1.1.1.1.1.1.1.0.now)
-    (λ κs a r s. Onward a.1.1.1.1.1.1.1.1.0.now a.1.1.1.1.1.1.1.1.1.0 r s.1.1.1.1.1.1.1.0.now)
+    (λ κs a r s. StretchWhole (stretch_at a.1.1.0.now a.1.1.1.0) a.1.0.now r s.1.0.now)
+    (λ κs a r s. Onward a.1.1.0.now a.1.1.1.0 r s.1.0.now)
 next_stretch_promised = NextStretch.met
 
 -- 8. Merge two logs: `merge(kinds, numbers, texts, out, first, second)`. `MergeWhole` gives the answer, every entry of the three

@@ -11,7 +11,7 @@ use lib.Dec.{leb}
 use lib.ListN.{length, drop}
 use Rattle.format.specs.Limits.{text_limit, nodes_used, texts_used}
 use Rattle.format.specs.Refusals.{text_too_long, not_utf8, table_too_short}
-use Rattle.format.specs.declared.Front.{Front}
+use Rattle.format.specs.declared.Reach.{Reach}
 use Rattle.chars.specs.Utf8.{utf8}
 use Rattle.chars.specs.White.{trim}
 use Rattle.pack.specs.Pack.{Pack, empty_pack}
@@ -51,34 +51,34 @@ accepted_holds {s} {e} a rest = record {
 
 -- ---- a call
 
-event_answer : (a : Answer) (f : Front) → Ok (Some f) ≡ line_read_of a → (e : Event) × (a ≡ event e)
+event_answer : (a : Answer) (f : Reach) → Ok (Some f) ≡ line_read_of a → (e : Event) × (a ≡ event e)
 event_answer (event e) f h = (e, refl)
 event_answer blank f h = let z : ◌≡◌ {A = ℕ} 0 1 = cc in absurd (omega arith)
 event_answer (refused n) f h = let z : ◌≡◌ {A = ℕ} 0 1 = cc in absurd (omega arith)
 
 -- tables that were too short are answered with no event
-long_enough : (b : Bool) (a : Result (Option Front) Refusal) (f : Front) → Ok (Some f) ≡ cond b a (Err table_too_short) → b ≡ true
+long_enough : (b : Bool) (a : Result (Option Reach) Refusal) (f : Reach) → Ok (Some f) ≡ cond b a (Err table_too_short) → b ≡ true
 long_enough true a f h = refl
 long_enough false a f h = let z : ◌≡◌ {A = ℕ} 0 1 = cc in absurd (omega arith)
 
 module _ {s : List ℕ} {p q : Pack} where
-  enough_lent : {f : Front} → ReadInto s p (Ok (Some f)) q → enough p.kinds p.numbers p.texts ≡ true
+  enough_lent : {f : Reach} → ReadInto s p (Ok (Some f)) q → enough p.kinds p.numbers p.texts ≡ true
   enough_lent {f} w = long_enough _ (line_read_of (read_line s)) f w.answer
 
-  pub event_read : {f : Front} → ReadInto s p (Ok (Some f)) q → IsRead s
+  pub event_read : {f : Reach} → ReadInto s p (Ok (Some f)) q → IsRead s
   event_read {f} w = event_answer (read_line s) f (rw (enough_lent w) at w.answer)
 
-  pub event_left_tables : {f : Front} {e : Event} → ReadInto s p (Ok (Some f)) q → read_line s ≡ event e → (rest : Pack) × (q ≡ tables_of e rest)
+  pub event_left_tables : {f : Reach} {e : Event} → ReadInto s p (Ok (Some f)) q → read_line s ≡ event e → (rest : Pack) × (q ≡ tables_of e rest)
   event_left_tables {f} {e} w h =
       let b = enough_lent w in
       let past : Pack = record { kinds = drop nodes_used p.kinds; numbers = drop nodes_used p.numbers; texts = drop texts_used p.texts } in
       let o = tables_padded nodes_used texts_used e past in
       (o.0, pack_is _ _ (w.kinds ∙ rw (b, h)) (w.numbers ∙ rw (b, h)) (w.texts ∙ rw (b, h)) ∙ o.1)
 
-  pub tables_hold : {f : Front} {e : Event} → ReadInto s p (Ok (Some f)) q → read_line s ≡ event e → Holds q e.entities
+  pub tables_hold : {f : Reach} {e : Event} → ReadInto s p (Ok (Some f)) q → read_line s ≡ event e → Holds q e.entities
   tables_hold {f} {e} w h = rw (event_left_tables w h).1 (accepted_holds (read_accepted s h) (event_left_tables w h).0)
 
-  pub taken_line : {r : Result (Option Front) Refusal} → ReadOrBlank s → enough p.kinds p.numbers p.texts ≡ true → ReadInto s p r q
-      → (r ≡ (Ok None)) ⊎ ((f : Front) × (r ≡ Ok (Some f)))
+  pub taken_line : {r : Result (Option Reach) Refusal} → ReadOrBlank s → enough p.kinds p.numbers p.texts ≡ true → ReadInto s p r q
+      → (r ≡ (Ok None)) ⊎ ((f : Reach) × (r ≡ Ok (Some f)))
   taken_line (inl h) b w = inl (w.answer ∙ rw (b, h))
   taken_line (inr (e, h)) b w = inr (sizes_of (append_event e empty_pack), w.answer ∙ rw (b, h))

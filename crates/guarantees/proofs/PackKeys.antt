@@ -12,7 +12,7 @@ use denote.Triple.Clauses.{AtExit}
 use denote.Triple.Entry.{Args}
 use Rattle.format.specs.Limits.{levels}
 use Rattle.format.specs.Outcome.{ok}
-use Rattle.format.specs.declared.Front.{Front}
+use Rattle.format.specs.declared.Reach.{Reach}
 use Rattle.chars.specs.White.{trim}
 use Rattle.pack.specs.Value.{entity}
 use Rattle.pack.specs.Pack.{Pack}
@@ -39,11 +39,11 @@ use Rattle.std.specs.Prelude.{Err, None, Ok, Option, Result, Some}
 use Rattle.format.specs.declared.Refusal.{Refusal}
 
 -- 1. A call that answered with an event was one of a line that is read: there is one event e that the line stands for.
-pub call_read : {s : List ℕ} {p q : Pack} {f : Front} → ReadInto s p (Ok (Some f)) q → IsRead s
+pub call_read : {s : List ℕ} {p q : Pack} {f : Reach} → ReadInto s p (Ok (Some f)) q → IsRead s
 call_read w = event_read w
 
 -- The tables that it left hold the entries of that event.
-pub call_holds : {s : List ℕ} {p q : Pack} {f : Front} {e : Event} → ReadInto s p (Ok (Some f)) q → read_line s ≡ event e → Holds q e.entities
+pub call_holds : {s : List ℕ} {p q : Pack} {f : Reach} {e : Event} → ReadInto s p (Ok (Some f)) q → read_line s ≡ event e → Holds q e.entities
 call_holds w h = tables_hold w h
 
 -- 2. What an entry is. The event has an entry for each comma part of the line's entities body,
@@ -56,28 +56,28 @@ pub entry_read : (s : List ℕ) {e : Event} → read_line s ≡ event e → (i :
 entry_read s h i l = LineEntries.entry_read (read_accepted s h) i l
 
 -- The entities node that a call left has as many stored keys as the event has entries, so what follows is said of all its entries.
-pub key_for_each_entry : {s : List ℕ} {p q : Pack} {f : Front} {e : Event} → ReadInto s p (Ok (Some f)) q → read_line s ≡ event e
+pub key_for_each_entry : {s : List ℕ} {p q : Pack} {f : Reach} {e : Event} → ReadInto s p (Ok (Some f)) q → read_line s ≡ event e
     → length (keys_in q) ≡ count_entries e.entities
 key_for_each_entry w h = StoredKeys.key_for_each_entry (call_holds w h)
 
 -- 3. Two calls, on any two lines and into any tables: the stretches of the two text tables that are the stored keys of two entries are equal,
 -- byte for byte, exactly when the entries' type texts are equal and their decoded ids are.
-pub keys_meet : {s s' : List ℕ} {p q p' q' : Pack} {f f' : Front} {e e' : Event} → ReadInto s p (Ok (Some f)) q → ReadInto s' p' (Ok (Some f')) q'
+pub keys_meet : {s s' : List ℕ} {p q p' q' : Pack} {f f' : Reach} {e e' : Event} → ReadInto s p (Ok (Some f)) q → ReadInto s' p' (Ok (Some f')) q'
     → read_line s ≡ event e → read_line s' ≡ event e' → KeysMeet q e.entities q' e'.entities
 keys_meet w w' h h' = StoredKeys.keys_meet (call_holds w h) (call_holds w' h')
 
 -- 4. A stored key, its bytes alone read again by the value rules, is the entity of exactly its entry's type text and decoded id,
-pub key_reads_back : {s : List ℕ} {p q : Pack} {f : Front} {e : Event} → ReadInto s p (Ok (Some f)) q → read_line s ≡ event e → KeysReadBack q e.entities
+pub key_reads_back : {s : List ℕ} {p q : Pack} {f : Reach} {e : Event} → ReadInto s p (Ok (Some f)) q → read_line s ≡ event e → KeysReadBack q e.entities
 key_reads_back w h = StoredKeys.key_reads_back (call_holds w h)
 
 -- and whatever entity it is read as is stored again as the same bytes.
-pub key_stored_again : {s : List ℕ} {p q : Pack} {f : Front} {e : Event} → ReadInto s p (Ok (Some f)) q → read_line s ≡ event e → KeysStoredAgain q e.entities
+pub key_stored_again : {s : List ℕ} {p q : Pack} {f : Reach} {e : Event} → ReadInto s p (Ok (Some f)) q → read_line s ≡ event e → KeysStoredAgain q e.entities
 key_stored_again w h = StoredKeys.key_stored_again (call_holds w h)
 
 -- 5. All of it as one promise of `read_line`, of every run on any line and into any tables: where the answer is an event, the tables hold the
 -- entries of the line's event, and each stored key in them meets those of any entries from any source, reads back, and is stored again the
 -- same. Of two runs, each leaves tables that the other's keys meet.
-keys_left : {s : List ℕ} {p q : Pack} (r : Result (Option Front) Refusal) → ReadInto s p r q → KeysAfter s r q
+keys_left : {s : List ℕ} {p q : Pack} (r : Result (Option Reach) Refusal) → ReadInto s p r q → KeysAfter s r q
 keys_left (Ok (Some f)) w =
     let h = event_read w in
     let o = tables_hold w h.1 in
@@ -108,17 +108,17 @@ keys_promised {M} = promised_less read_line.ended ReadLineCode.code ReadLineCode
     read_line_promised
 
 -- 6. A line of an accepted log, read alone into tables that are long enough, is blank or leaves a pack as above.
-pub log_line : (l : List ℕ) {c : ℕ} → judge_log l ≡ Ok c → (line : ℕ) → Numbered line (log_lines l) → {p q : Pack} {r : Result (Option Front) Refusal}
-    → enough p.kinds p.numbers p.texts ≡ true → ReadInto (line_numbered line (log_lines l)) p r q → (r ≡ (Ok None)) ⊎ ((f : Front) × (r ≡ Ok (Some f)))
+pub log_line : (l : List ℕ) {c : ℕ} → judge_log l ≡ Ok c → (line : ℕ) → Numbered line (log_lines l) → {p q : Pack} {r : Result (Option Reach) Refusal}
+    → enough p.kinds p.numbers p.texts ≡ true → ReadInto (line_numbered line (log_lines l)) p r q → (r ≡ (Ok None)) ⊎ ((f : Reach) × (r ≡ Ok (Some f)))
 log_line l {c} a line n b w = taken_line (((accepted_iff l c).0 a).1 line n) b w
 
 -- The event of 3 and 4 is the one that the line gives in its log, be the log's other lines read or refused: it is enough that the log is
 -- within the limits.
-pub log_keys_meet : (l l' : List ℕ) → InLimits l → InLimits l' → (line line' : ℕ) → {p q p' q' : Pack} {f f' : Front} {e e' : Event}
+pub log_keys_meet : (l l' : List ℕ) → InLimits l → InLimits l' → (line line' : ℕ) → {p q p' q' : Pack} {f f' : Reach} {e e' : Event}
     → ReadInto (line_numbered line (log_lines l)) p (Ok (Some f)) q → ReadInto (line_numbered line' (log_lines l')) p' (Ok (Some f')) q'
     → line_answer (line_numbered line (log_lines l)) ≡ event e → line_answer (line_numbered line' (log_lines l')) ≡ event e' → KeysMeet q e.entities q' e'.entities
 log_keys_meet l l' a a' line line' w w' h h' = keys_meet w w' (line_alone l a line ∙ h) (line_alone l' a' line' ∙ h')
 
-pub log_key_reads_back : (l : List ℕ) → InLimits l → (line : ℕ) → {p q : Pack} {f : Front} {e : Event} → ReadInto (line_numbered line (log_lines l)) p (Ok (Some f)) q
+pub log_key_reads_back : (l : List ℕ) → InLimits l → (line : ℕ) → {p q : Pack} {f : Reach} {e : Event} → ReadInto (line_numbered line (log_lines l)) p (Ok (Some f)) q
     → line_answer (line_numbered line (log_lines l)) ≡ event e → KeysReadBack q e.entities × KeysStoredAgain q e.entities
 log_key_reads_back l a line w h = let r = line_alone l a line ∙ h in (key_reads_back w r, key_stored_again w r)

@@ -35,7 +35,7 @@ use Rattle.guarantees.specs.Calls.{ReadInto}
 use Rattle.guarantees.specs.RefusalTable.{OneOf, refusal_table, decode_rows, spell_key_rows, cut_body_rows, read_line_rows, judge_rows, list_line_rows, merge_rows, RowsOfTheTable}
 use Rattle.guarantees.proofs.Agreement.{refused_iff}
 use Rattle.std.specs.Prelude.{Err, None, Ok, Option, Result, Some}
-use Rattle.format.specs.declared.Front.{Front}
+use Rattle.format.specs.declared.Reach.{Reach}
 use Rattle.logs.specs.declared.LineRefusal.{LineRefusal}
 use Rattle.merging.specs.declared.MergeRefusal.{MergeRefusal}
 use Rattle.format.specs.declared.Refusal.{Refusal}
@@ -91,7 +91,7 @@ module _ (ns : List Refusal) (w : all_in read_refusals ns ≡ true) where
   read_in : (s : List ℕ) (n : Refusal) → read_line s ≡ refused n → is_in n ns ≡ true
   read_in s n h = in_all n read_refusals ns w (read_refused s n h)
 
-abbrev LineIn : Result (Option Front) Refusal → Type 0
+abbrev LineIn : Result (Option Reach) Refusal → Type 0
 LineIn (Ok (Some f)) = Unit {0}
 LineIn (Ok None) = Unit {0}
 LineIn (Err n) = is_in n read_line_rows ≡ true

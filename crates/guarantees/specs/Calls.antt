@@ -9,11 +9,11 @@ use Rattle.events.specs.Answer.{read_line}
 use Rattle.lines.specs.Entry.{LineWhole}
 use Rattle.guarantees.specs.Keys.{keys_in, Holds, KeysMeet, KeysReadBack, KeysStoredAgain}
 use Rattle.std.specs.Prelude.{Err, None, Ok, Option, Result, Some}
-use Rattle.format.specs.declared.Front.{Front}
+use Rattle.format.specs.declared.Reach.{Reach}
 use Rattle.format.specs.declared.Refusal.{Refusal}
 
 -- What `read_line` ensures of a call, its whole contract: the line s, the three tables lent to it, its answer, and the tables as it left them.
-abbrev pub ReadInto : List ℕ → Pack → Result (Option Front) Refusal → Pack → Type 0
+abbrev pub ReadInto : List ℕ → Pack → Result (Option Reach) Refusal → Pack → Type 0
 ReadInto s lent r left = LineWhole s lent.kinds lent.numbers lent.texts r left.kinds left.numbers left.texts
 
 -- *Keys meet*, of a call on the line s that left the tables q: they hold the entries of the line's event, and each entry's stored key reads
@@ -28,7 +28,7 @@ pub record KeysLeft (s : List ℕ) (q : Pack) : Type 0 where
   pub stored_again : KeysStoredAgain q event.entities
 
 -- where the answer is an event
-abbrev pub KeysAfter : List ℕ → Result (Option Front) Refusal → Pack → Type 0
+abbrev pub KeysAfter : List ℕ → Result (Option Reach) Refusal → Pack → Type 0
 KeysAfter s (Ok (Some f)) q = KeysLeft s q
 KeysAfter s (Ok None) q = Unit {0}
 KeysAfter s (Err n) q = Unit {0}

@@ -9,7 +9,7 @@ use Rattle.lines.specs.Entry.{enough, line_read_of}
 use Rattle.logs.specs.Judge.{of_text, judge_log}
 use Rattle.listing.specs.Entry.{list_answer}
 use Rattle.std.specs.Prelude.{Err, None, Ok, Option, Result, Some}
-use Rattle.format.specs.declared.Front.{Front}
+use Rattle.format.specs.declared.Reach.{Reach}
 use Rattle.logs.specs.declared.LineRefusal.{LineRefusal}
 use Rattle.merging.specs.declared.MergeRefusal.{MergeRefusal}
 use Rattle.format.specs.declared.Refusal.{Refusal}
@@ -26,13 +26,13 @@ abbrev pub counted_answer : Result ℕ Refusal → ℕ
 counted_answer (Ok n) = n
 counted_answer (Err n) = refused_answer n
 
-abbrev pub of_read : Result (Option Front) Refusal → ℕ
+abbrev pub of_read : Result (Option Reach) Refusal → ℕ
 of_read (Ok (Some f)) = 1
 of_read (Ok None) = 0
 of_read (Err n) = refused_answer n
 
 -- the whole array of sizes afterwards: a pack's nodes, then its text bytes; only an event writes it
-abbrev pub sizes_after : Result (Option Front) Refusal → List ℕ → List ℕ
+abbrev pub sizes_after : Result (Option Reach) Refusal → List ℕ → List ℕ
 sizes_after (Ok (Some f)) sizes = f.nodes ∷ f.texts ∷ []
 sizes_after (Ok None) sizes = sizes
 sizes_after (Err n) sizes = sizes
@@ -52,7 +52,7 @@ of_listed (Err n) = refused_answer n
 
 -- ---- the answers themselves, with tables k, n and t
 
-abbrev pub read_answer : List ℕ → List ℕ → List ℕ → List ℕ → Result (Option Front) Refusal
+abbrev pub read_answer : List ℕ → List ℕ → List ℕ → List ℕ → Result (Option Reach) Refusal
 read_answer s k n t = cond (enough k n t) (line_read_of (read_line s)) (Err table_too_short)
 
 abbrev pub judge_answer : List ℕ → List ℕ → List ℕ → List ℕ → Result ℕ LineRefusal

@@ -84,8 +84,8 @@ pub extern "C" fn lulzhemor_read_line(
         result kinds.new numbers.new texts.new sizes.new }
 {
     match lines::read_line(kinds, numbers, texts, line) {
-        Ok(Some(front)) => {
-            *sizes = [front.nodes as u64, front.texts as u64];
+        Ok(Some(reach)) => {
+            *sizes = [reach.nodes as u64, reach.texts as u64];
             EVENT
         }
         Ok(None) => BLANK,

@@ -12,6 +12,7 @@ use Rattle.ranges.specs.EscapedAnywhere.{escaped_anywhere}
 use Rattle.ranges.specs.FirstOnly.{first_only}
 use Rattle.ranges.specs.Hidden.{pinned, hidden}
 use Rattle.ranges.specs.Look.{look_of, TablesLent}
+use Rattle.ranges.specs.declared.EscapeTables.{EscapeTables}
 use Rattle.ranges.specs.declared.Look.TheVariants.{Number, Itself}
 
 pub hidden_never : (first : Bool) (c : ℕ) → member escaped_anywhere c ≡ false → member first_only c ≡ false → hidden pinned first c ≡ false
@@ -40,9 +41,9 @@ unfolding hidden
 later_itself c e = rw e
 
 -- where the first table has entries both are lent
-pub lent_both : (anywhere first : List ℕ) → TablesLent anywhere first → (length anywhere ≡ 0 → ⊥) → (anywhere ≡ escaped_anywhere) × (first ≡ first_only)
-lent_both anywhere first (inl e) h = absurd (h e)
-lent_both anywhere first (inr t) h = t
+pub lent_both : (t : EscapeTables) → TablesLent t → (length t.anywhere.now ≡ 0 → ⊥) → (t.anywhere.now ≡ escaped_anywhere) × (t.firsts.now ≡ first_only)
+lent_both t (e, inl n) h = absurd (h n)
+lent_both t (e, inr l) h = l
 
 -- a test of a lent table is one of the table itself
 pub lent_test : {xs ys : List ℕ} {r b : Bool} (c : ℕ) → xs ≡ ys → r ≡ member xs c → r ≡ b → member ys c ≡ b

@@ -3,7 +3,9 @@
 use Rattle.std.specs.Prelude.{◌≡◌, ◌⊎◌, Bool, cond, List, ℕ, length}
 use Rattle.ranges.specs.EscapedAnywhere.{escaped_anywhere}
 use Rattle.ranges.specs.FirstOnly.{first_only}
+use Rattle.ranges.specs.Common.{common}
 use Rattle.ranges.specs.Hidden.{Tables, pinned, hidden}
+use Rattle.ranges.specs.declared.EscapeTables.{EscapeTables}
 use Rattle.ranges.specs.declared.Look.{Look}
 use Rattle.ranges.specs.declared.Look.TheVariants.{Number, Itself, Unknown}
 
@@ -11,9 +13,9 @@ use Rattle.ranges.specs.declared.Look.TheVariants.{Number, Itself, Unknown}
 abbrev pub look_of : Tables → Bool → ℕ → Look
 look_of t first c = cond (hidden t first c) Number Itself
 
--- the tables are lent, or the first is empty
-abbrev pub TablesLent : List ℕ → List ℕ → Type 0
-TablesLent anywhere first = (length anywhere ≡ 0) ⊎ ((anywhere ≡ escaped_anywhere) × (first ≡ first_only))
+-- the common scripts are lent, and with them both tables, or the first is empty
+abbrev pub TablesLent : EscapeTables → Type 0
+TablesLent t = (t.common.now ≡ common) × ((length t.anywhere.now ≡ 0) ⊎ ((t.anywhere.now ≡ escaped_anywhere) × (t.firsts.now ≡ first_only)))
 
 -- without tables the answer may be Unknown
 abbrev pub Settled : List ℕ → Bool → ℕ → Look → Type 0

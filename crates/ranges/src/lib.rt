@@ -9,7 +9,6 @@ ghost use Rattle.std.specs.Prelude.{◌≡◌, ℕ, ◌≤◌, ◌<◌, get_or, 
 ghost use Rattle.ranges.specs.Ranges.{member, Ascending};
 ghost use Rattle.ranges.specs.EscapedAnywhere.{escaped_anywhere};
 ghost use Rattle.ranges.specs.FirstOnly.{first_only};
-ghost use Rattle.ranges.specs.Common.{common as common_list};
 ghost use Rattle.ranges.specs.Look.{TablesLent, Settled};
 
 // How a character beyond printable ASCII is written.
@@ -28,6 +27,14 @@ pub const COMMON: [u32; 28] = [
     161, 173, 174, 768, 931, 1155, 1162, 1328, 8208, 8232, 8592, 9258, 9312, 11124, 12289, 12330,
     12353, 12439, 12443, 12544, 12832, 42125, 44032, 55204, 65281, 65438, 127744, 128729,
 ];
+
+// The tables that `look_of` asks, where they lie: `common` is that of here, and the other two are those of here, or empty.
+#[derive(Clone, Copy)]
+pub struct EscapeTables<'a> {
+    pub common: &'a [u32],
+    pub anywhere: &'a [u32],
+    pub firsts: &'a [u32],
+}
 
 // How many boundaries of the table are at most c.
 fn boundaries_passed(table: &[u32], c: u32) -> usize
@@ -63,24 +70,24 @@ pub fn first_only() -> [u32; 762]
 }
 
 // How a character beyond printable ASCII is written by the tables; Unknown only where none are lent.
-pub fn look_of(common: &[u32], anywhere: &[u32], firsts: &[u32], c: u32, first: bool) -> Look
-    requires { (common.now ≡ common_list) × TablesLent anywhere.now firsts.now × (127 ≤ c) }
-    ensures { Settled anywhere.now first c result }
+pub fn look_of(tables: EscapeTables, c: u32, first: bool) -> Look
+    requires { TablesLent tables × (127 ≤ c) }
+    ensures { Settled tables.entry.anywhere.now first c result }
 {
     if c < 161 {
         return Look::Number;
     }
-    if in_ranges(common, c) {
+    if in_ranges(tables.common, c) {
         return Look::Itself;
     }
-    if anywhere.len() == 0 {
+    if tables.anywhere.len() == 0 {
         return Look::Unknown;
     }
-    if in_ranges(anywhere, c) {
+    if in_ranges(tables.anywhere, c) {
         return Look::Number;
     }
     if first {
-        if in_ranges(firsts, c) {
+        if in_ranges(tables.firsts, c) {
             return Look::Number;
         }
     }

@@ -1,4 +1,7 @@
 // What the oracle answered beside what our functions gave and wrote.
+ghost use Rattle.std.specs.Prelude.{◌≡◌};
+ghost use Rattle.format.specs.Refusals.{number};
+
 use crate::{control, little};
 use format::Refusal;
 
@@ -6,7 +9,9 @@ use format::Refusal;
 pub const OUTPUT: usize = 32_768;
 
 // The number of a refusal.
-pub fn number(refusal: Refusal) -> u64 {
+pub fn number(refusal: Refusal) -> u64
+    ensures { result ≡ number refusal }
+{
     little::wide(refusal.into())
 }
 
@@ -25,20 +30,17 @@ pub fn written(answer: &[u8]) -> &[u8] {
     little::first_part(answer, 0)
 }
 
-// The byte of a text, or past its end this value.
-fn byte_or(text: &[u8], at: usize, other: u64) -> u64 {
-    if at < text.len() {
-        return little::wide(text[at]);
-    }
-    other
+// The byte of a text.
+fn byte_at(text: &[u8], at: usize) -> Option<u64> {
+    text.get(at).map(|&b| little::wide(b))
 }
 
-// The number that stands in eight bytes of a text, or past its end this value.
-fn number_or(text: &[u8], at: usize, other: u64) -> u64 {
+// The number that stands in eight bytes of a text.
+fn number_at(text: &[u8], at: usize) -> Option<u64> {
     if at < text.len() / 8 {
-        return little::eight(text, at * 8);
+        return Some(little::eight(text, at * 8));
     }
-    other
+    None
 }
 
 // Does a table of bytes hold this text and nothing else?
@@ -46,7 +48,7 @@ pub fn bytes_hold(s: &[u8], text: &[u8], used: usize, table: usize, wrong: usize
     let mut same = text.len() <= s.len();
     for (i, &b) in s.iter().enumerate() {
         let unwritten = control::unwritten(i, used, table, wrong);
-        same = same & (little::wide(b) == byte_or(text, i, unwritten));
+        same = same & (little::wide(b) == byte_at(text, i).unwrap_or(unwritten));
     }
     same
 }
@@ -62,7 +64,7 @@ pub fn numbers_hold(s: &[u64], text: &[u8], used: usize, table: usize, wrong: us
     let mut same = text.len() / 8 <= s.len();
     for (i, &number) in s.iter().enumerate() {
         let unwritten = control::unwritten(i, used, table, wrong);
-        same = same & (number == number_or(text, i, unwritten));
+        same = same & (number == number_at(text, i).unwrap_or(unwritten));
     }
     same
 }

@@ -1,6 +1,7 @@
 // The control: cases that must differ. Most have a wrong answer. In the others the answer is true, and one look at what was lent
 // expects another value than it should. `wrong` says which look: 0 none, else the number of a table for its cleared entries,
-// four more for its entries that are as they were lent, or what stands below.
+// four more for its entries that are as they were lent, or what stands below. It is a number and no enum, since it is a byte of the stored
+// answers.
 
 pub const GROUP: usize = 10;
 

@@ -1,12 +1,12 @@
 // Cases of the crate lines: what a line gives and what the tables then hold.
 use crate::packs::TableLengths;
 use crate::{answers, little, packs};
-use format::{Front, Refusal};
+use format::{Reach, Refusal};
 
 // 0 and the refusal, or 1 and the pack, or 2 for a blank line.
-fn same_line(read: Result<Option<Front>, Refusal>, answer: &[u8]) -> bool {
+fn same_line(read: Result<Option<Reach>, Refusal>, answer: &[u8]) -> bool {
     match read {
-        Ok(Some(front)) => packs::is_pack(answer, front),
+        Ok(Some(sizes)) => packs::is_pack(answer, sizes),
         Ok(None) => answers::is(answer, 1, 2, 0),
         Err(e) => answers::is(answer, 2, 0, answers::number(e)),
     }

@@ -1,5 +1,5 @@
 // Little-endian numbers in a text, past whose end stand zeros; and parts of texts and tables, which end where these do at the latest.
-ghost use Rattle.std.specs.Prelude.{◌<◌};
+ghost use Rattle.std.specs.Prelude.{◌≡◌, ◌++◌, ◌<◌, take, drop};
 
 pub fn byte(s: &[u8], at: usize) -> u64
     ensures { result < 256 }
@@ -8,7 +8,8 @@ pub fn byte(s: &[u8], at: usize) -> u64
 }
 
 pub fn wide(b: u8) -> u64
-    ensures { result < 256 }
+    ensures value { result ≡ b }
+    ensures bound { result < 256 }
 {
     u64::from(b)
 }
@@ -56,7 +57,9 @@ pub fn rest_of(s: &[u8], n: usize) -> &[u8] {
 }
 
 // The same of a table, to be lent.
-pub fn lent_part<T>(s: &mut [T], n: usize) -> &mut [T] {
+pub fn lent_part<T>(s: &mut [T], n: usize) -> &mut [T]
+    ensures { result.now ≡ take n s.entry.now }
+{
     if n < s.len() {
         return &mut s[..n];
     }

@@ -36,7 +36,7 @@ pub struct Tally {
     pub whole: bool,
 }
 
-// Does our function give this answer, with tables lent as the op says?
+// Does our function give this answer, with tables lent as the op says? Each case has data of its own, as in `asked`.
 fn lent_asked(group: usize, op: usize, input: &[u8], answer: &[u8], wrong: usize) -> bool {
     let Some(lent) = TableLengths::by_op(op) else {
         return false;
@@ -50,7 +50,8 @@ fn lent_asked(group: usize, op: usize, input: &[u8], answer: &[u8], wrong: usize
     }
 }
 
-// Does our function give this answer? Each case reads data of its own, so that a table of functions would be no plainer.
+// Does our function give this answer? Each case reads data of its own, so that a table of functions would be no plainer. Groups and ops are
+// numbers and no enum, since they are bytes of the stored answers.
 fn asked(group: usize, op: usize, input: &[u8], answer: &[u8], wrong: usize) -> bool {
     match group {
         1 => chars_cases::agrees(op, input, answer),

@@ -1,6 +1,6 @@
 // The pack tables that are lent, every entry 77, and what they then hold beside the oracle's pack.
 use crate::{answers, control, little};
-use format::{Front, Log, Reach};
+use format::{Log, Reach};
 
 // Longer than what a call uses, so that a call that goes too far shows.
 pub const KINDS: usize = Log::NODES + 1;
@@ -56,9 +56,9 @@ impl TableLengths {
 }
 
 // 1 and a pack of so many nodes and bytes of text: their counts in four bytes each, then kinds, numbers and texts.
-pub fn is_pack(answer: &[u8], front: Front) -> bool {
-    let nodes = front.nodes;
-    let count = front.texts;
+pub fn is_pack(answer: &[u8], sizes: Reach) -> bool {
+    let nodes = sizes.nodes;
+    let count = sizes.texts;
     (little::byte(answer, 0) == 1)
         & (little::four(answer, 1) == (nodes as u64))
         & (little::four(answer, 5) == (count as u64))
@@ -101,7 +101,7 @@ pub fn hold(
 // How far a call with this answer uses the tables: not at all where it refuses them as too short.
 fn used_by(answer: &[u8]) -> Reach {
     if little::two(answer, 0) == TABLE_REFUSED {
-        return Log::empty_reach();
+        return Reach::default();
     }
     Reach {
         nodes: Log::NODES,

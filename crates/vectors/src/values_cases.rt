@@ -1,6 +1,7 @@
 // Cases of the crate values: a value's pack, compared with the oracle's.
 use crate::{answers, little, packs};
 use format::{Log, Reach, Refusal};
+use pack::Tables;
 
 // 0 and the refusal, or 1 and the pack. Of what stands behind it in the tables nothing is promised.
 fn same_value(
@@ -12,7 +13,7 @@ fn same_value(
 ) -> bool {
     match read {
         Ok(reach) => {
-            packs::is_pack(answer, Log::front_of(reach))
+            packs::is_pack(answer, reach)
                 & packs::hold(
                     little::first_part(kinds, reach.nodes),
                     little::first_part(numbers, reach.nodes),
@@ -34,13 +35,13 @@ pub fn agrees(input: &[u8], answer: &[u8]) -> bool {
     if input.len() > Log::LINE_LIMIT {
         return false;
     }
-    let read = values::parse_value(
-        &mut kinds,
-        &mut numbers,
-        &mut texts,
-        &mut links,
-        Log::empty_reach(),
-        input,
-    );
-    same_value(read, &kinds, &numbers, &texts, answer)
+    let mut tables = Tables {
+        kinds: &mut kinds,
+        numbers: &mut numbers,
+        texts: &mut texts,
+        reach: Reach::default(),
+    };
+    let read = values::parse_value(&mut tables, &mut links, input);
+    let reach = tables.reach;
+    same_value(read.map(|_| reach), &kinds, &numbers, &texts, answer)
 }

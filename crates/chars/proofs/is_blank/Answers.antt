@@ -15,5 +15,5 @@ none_left : (t : List ℕ) → eqb (length t) 0 ≡ empty t
 none_left [] = refl
 none_left (a ∷ r) = ne_eqb (length (a ∷ r)) 0 (λ (e : length (a ∷ r) ≡ 0). omega arith)
 
-pub returns-in_default : goal.returns-in_default
-returns-in_default c = c.is_empty.ensures ∙ none_left c.strip.result.now ∙ ap empty c.strip.ensures ∙ trim_blank _
+pub returns-then-not-is_past_space : goal.returns-then-not-is_past_space
+returns-then-not-is_past_space c = c.is_empty.ensures ∙ none_left c.strip.result.now ∙ ap empty c.strip.ensures ∙ trim_blank _

@@ -5,8 +5,8 @@ use lib.ListN.{length}
 use Rattle.chars.specs.White.{trim_start}
 use Rattle.chars.proofs.strip_start.Given as goal
 
-abbrev pub invariant-loop-t : goal.invariant-loop-t
-invariant-loop-t l = trim_start l.s ≡ trim_start l.t
+abbrev pub invariant-loop-n : goal.invariant-loop-n
+invariant-loop-n l = trim_start l.s ≡ trim_start l.t
 
-abbrev pub decreases-loop-t : goal.decreases-loop-t
-decreases-loop-t l = length l.t
+abbrev pub decreases-loop-n : goal.decreases-loop-n
+decreases-loop-n l = length l.t

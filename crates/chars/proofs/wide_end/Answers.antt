@@ -7,8 +7,8 @@ use Rattle.std.proofs.lemmas.Grind.{common_steps}
 use Rattle.chars.proofs.Ending.{white_few}
 use Rattle.chars.proofs.wide_end.Goals as goal
 
-pub returns-else-wide_width-n : goal.returns-else-wide_width-n
-returns-else-wide_width-n c =
+pub returns-else-eq : goal.returns-else-eq
+returns-else-eq c =
     record {
       nonempty = λ l. absurd (omega arith);
       nothing = λ _ m e. let few = white_few (drop (length c.args.s.now - m) c.args.s.now) in grind (arith, common_steps);

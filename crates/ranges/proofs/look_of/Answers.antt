@@ -9,43 +9,43 @@ use Rattle.ranges.proofs.look_of.Goals as goal
 pub returns-then-c-lt161 : goal.returns-then-c-lt161
 returns-then-c-lt161 c =
     let a = c.args in
-    sym (anywhere_number a.first a.c (delete_hidden a.c c.requires.2 c.if-c-lt161.true))
+    sym (anywhere_number a.first a.c (delete_hidden a.c c.requires.1 c.if-c-lt161.true))
 
 pub in_ranges-requires : goal.in_ranges-requires
-in_ranges-requires c = rw c.requires.0 common_ascending
+in_ranges-requires c = rw c.requires.0.0 common_ascending
 
 pub returns-then-in_ranges : goal.returns-then-in_ranges
 returns-then-in_ranges c =
     let a = c.args in
-    let m = lent_test a.c c.requires.0 c.in_ranges.ensures c.if-in_ranges.true in
+    let m = lent_test a.c c.requires.0.0 c.in_ranges.ensures c.if-in_ranges.true in
     sym (neither_itself a.first a.c (common_anywhere a.c m) (common_first a.c m))
 
-pub returns-then-anywhere-eq0 : goal.returns-then-anywhere-eq0
-returns-then-anywhere-eq0 c = c.if-anywhere-eq0.true
+pub returns-then-tables-eq0 : goal.returns-then-tables-eq0
+returns-then-tables-eq0 c = c.if-tables-eq0.true
 
 pub in_ranges-requires-2 : goal.in_ranges-requires-2
 in_ranges-requires-2 c =
     let a = c.args in
-    let t = lent_both _ _ c.requires.1 c.if-anywhere-eq0.false in
+    let t = lent_both a.tables c.requires.0 c.if-tables-eq0.false in
     rw t.0 escaped_anywhere_ascending
 
 pub returns-then-in_ranges-2 : goal.returns-then-in_ranges-2
 returns-then-in_ranges-2 c =
     let a = c.args in
-    let t = lent_both _ _ c.requires.1 c.if-anywhere-eq0.false in
+    let t = lent_both a.tables c.requires.0 c.if-tables-eq0.false in
     let m = lent_test a.c t.0 c.in_ranges-2.ensures c.if-in_ranges-2.true in
     sym (anywhere_number a.first a.c m)
 
 pub in_ranges-requires-then-first : goal.in_ranges-requires-then-first
 in_ranges-requires-then-first c =
     let a = c.args in
-    let t = lent_both _ _ c.requires.1 c.if-anywhere-eq0.false in
+    let t = lent_both a.tables c.requires.0 c.if-tables-eq0.false in
     rw t.1 first_only_ascending
 
 pub returns-then-in_ranges-3 : goal.returns-then-in_ranges-3
 returns-then-in_ranges-3 c =
     let a = c.args in
-    let t = lent_both _ _ c.requires.1 c.if-anywhere-eq0.false in
+    let t = lent_both a.tables c.requires.0 c.if-tables-eq0.false in
     let m = lent_test a.c t.0 c.in_ranges-2.ensures c.if-in_ranges-2.false in
     let f = lent_test a.c t.1 c.in_ranges-then-first.ensures c.if-in_ranges-3.true in
     rw c.if-first.true (sym (as_first_number a.c m f))
@@ -53,7 +53,7 @@ returns-then-in_ranges-3 c =
 pub returns-else-in_ranges-3 : goal.returns-else-in_ranges-3
 returns-else-in_ranges-3 c =
     let a = c.args in
-    let t = lent_both _ _ c.requires.1 c.if-anywhere-eq0.false in
+    let t = lent_both a.tables c.requires.0 c.if-tables-eq0.false in
     let m = lent_test a.c t.0 c.in_ranges-2.ensures c.if-in_ranges-2.false in
     let f = lent_test a.c t.1 c.in_ranges-then-first.ensures c.if-in_ranges-3.false in
     sym (neither_itself a.first a.c m f)
@@ -61,6 +61,6 @@ returns-else-in_ranges-3 c =
 pub returns-else-first : goal.returns-else-first
 returns-else-first c =
     let a = c.args in
-    let t = lent_both _ _ c.requires.1 c.if-anywhere-eq0.false in
+    let t = lent_both a.tables c.requires.0 c.if-tables-eq0.false in
     let m = lent_test a.c t.0 c.in_ranges-2.ensures c.if-in_ranges-2.false in
     rw c.if-first.false (sym (later_itself a.c m))
