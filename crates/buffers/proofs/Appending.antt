@@ -48,10 +48,6 @@ module _ {old : List ℕ} {at : ℕ} {a : List ℕ} {i : ℕ} {left whole : List
     kept = kept_on old w g.kept;
   }
 
-  -- it has room where the whole has
-  pub going_room : (n : ℕ) (x rest : List ℕ) → left ≡ x ++ rest → at + length whole ≤ n → i + length x ≤ n
-  going_room n x rest e h = omega (arith, g.ends, ap length e, length-append x rest)
-
   -- nothing is left
   pub going_done : left ≡ [] → Wrote old at a i whole
   going_done e = record {

@@ -1,7 +1,6 @@
 pub mod Choice
 pub mod Appending
 pub mod Equal
-pub mod Clearing
 pub mod Skipping
 pub mod Parts
 pub mod Putting

@@ -25,6 +25,3 @@ module _ (s x r : List ℕ) (i n : ℕ) (cut : drop i s ≡ x ++ r) (long : leng
 
   pub block_inside : i ≤ length s → i + n ≤ length s
   block_inside h = omega (arith, ap length cut, length-append x r, length-drop i s)
-
-  pub block_holds : (P : ℕ → Type 0) → ((k : ℕ) → k < length x → P (get_or x k 0)) → (j : ℕ) → i ≤ j → j < i + n → P (get_or s j 0)
-  block_holds P f = part_holds P s i n n (omega arith) (λ k l. subst (λ (y : List ℕ). P (get_or y k 0)) block_is (f k (omega (arith, long))))

@@ -3,4 +3,3 @@ pub mod Joining
 pub mod Sink
 pub mod Same
 pub mod Ascii
-pub mod Moments

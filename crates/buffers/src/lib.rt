@@ -10,7 +10,8 @@ ghost use Rattle.buffers.specs.Same.{same as same_bytes};
 use std::io::Read;
 use std::{io, mem};
 
-// The first place from `at` on whose byte passes the test, or the length where none does.
+// The first place from `at` on whose byte passes the test, or the length where none does. No `Option`: every caller cuts at this place, or
+// goes on from it.
 pub fn find_from<F: Fn(u8) -> bool>(s: &[u8], at: usize, passes: F) -> usize
     requires callable { F.IsAlwaysCallable passes }
     requires start { at ≤ length s.now }

@@ -9,3 +9,4 @@ pub mod Runs
 pub mod Spacing
 pub mod Examples
 pub mod Checking
+pub mod Blocks

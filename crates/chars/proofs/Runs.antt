@@ -1,7 +1,6 @@
 -- Runs of ASCII bytes: how they grow, join, and are passed by the UTF-8 check; and characters of two bytes.
 -- Assumes nothing.
 use mathlib.Core.Path.{◌≡◌, ap, ◌∙◌}
-use mathlib.Core.Bool.{Bool, true}
 use mathlib.Core.Logic.{◌⊎◌, inl}
 use mathlib.Core.List.{List}
 use Prim.Native.Nat.{ℕ, ◌+◌, ◌-◌, ◌≤◌, ◌<◌}
@@ -16,16 +15,6 @@ use Rattle.chars.proofs.Reading.{char_here, advance_char, advance_ascii, advance
 use Rattle.chars.proofs.Boundary.{second_bad}
 use Rattle.chars.proofs.Encoding.{low_le, le_high, step_2}
 use Rattle.std.specs.Prelude.{None}
-
--- ---- bytes that all pass a test
-
-module _ (p : ℕ → Bool) (s : List ℕ) where
-  pub all_join : (a b c : ℕ) → AllBytes p s a b → AllBytes p s b c → AllBytes p s a c
-  all_join a b c f g = λ i k l. go i k l (dec_lt i b)
-    where
-      go : (i : ℕ) → a ≤ i → i < c → Dec (i < b) → p (get_or s i 0) ≡ true
-      go i k l (yes m) = f i k m
-      go i k l (no m) = g i (omega arith) l
 
 -- ---- ASCII
 

@@ -1,7 +1,7 @@
 -- Texts that begin or end with a byte past the space, and spaces at the start.
 -- Assumes nothing.
 use mathlib.Core.Path.{◌≡◌, refl, sym, ap, ◌∙◌}
-use mathlib.Core.Bool.{Bool, true, false, cond}
+use mathlib.Core.Bool.{Bool, false, cond}
 use mathlib.Core.List.{List, [], ◌∷◌}
 use Prim.Native.Nat.{ℕ, zero, suc, ◌+◌, ◌-◌, ◌≤◌, ◌<◌}
 use Prim.Native.Char.{code}
@@ -12,7 +12,7 @@ use lib.Dec.{eqb}
 use borrow.Author.Tests.{eqb-true}
 use lib.ListN.{length, get_or, drop, length-drop}
 use lib.Seq.{drop-drop, get_or-drop}
-use Rattle.chars.specs.White.{white, wide_white, white_at, trim_from, trim_start, empty, trim_end, trim, blank}
+use Rattle.chars.specs.White.{white, wide_white, white_at, trim_start, empty, trim_end, trim, blank}
 use Rattle.chars.specs.Post.{AllBytes, EndsIn, Spaces}
 use Rattle.chars.proofs.Trimming.{trim_start_stays, trim_start_white, start_clean, trim_end_stays, trim_stays}
 use Rattle.std.specs.Prelude.{None, Option, Some, MatchOption, slice_get}
@@ -76,11 +76,6 @@ one_space s h e g l =
 pub past_not_blank : (s : List ℕ) → 0 < length s → white_at s ≡ 0 → blank s ≡ false
 past_not_blank [] h e = absurd (omega arith)
 past_not_blank (a ∷ r) h e = ap empty (trim_start_stays (a ∷ r) e)
-
-pub none_blank : (s : List ℕ) → length s ≡ 0 → blank s ≡ true
-unfolding trim_from
-none_blank [] h = refl
-none_blank (a ∷ r) h = absurd (omega arith)
 
 -- nothing is left of a text just where nothing is left of its start
 pub trim_blank : (s : List ℕ) → empty (trim s) ≡ blank s

@@ -141,14 +141,10 @@ fn blocks_end<const N: usize, F: Fn(&[u8]) -> bool>(s: &[u8], at: usize, passes:
         → ((block : List ℕ) → FnReturnsAt F.Fn passes block true → AllBytes p block 0 (length block))
         → AllBytes p s.now at result }
 {
-    let mut i = at;
-    for block in s[at..].chunks_exact(N) {
-        if !passes(block) {
-            return i;
-        }
-        i += N;
+    match s[at..].chunks_exact(N).position(|block| !passes(block)) {
+        Some(n) => at + n * N,
+        None => at + (s.len() - at) / N * N,
     }
-    i
 }
 
 // Where the ASCII bytes from `at` on end, or `limit` where none ends them before it.
@@ -205,7 +201,8 @@ fn advance(s: &[u8], at: usize) -> Option<usize>
     }
 }
 
-// Is the text UTF-8?
+// Is the text UTF-8? The library's `str::from_utf8` promises by another definition than `specs/Utf8`, which is written from the document.
+// It takes a third fewer instructions on long ASCII, and a quarter more where a character has two bytes.
 pub fn is_utf8(s: &[u8]) -> bool
     ensures { result ≡ utf8 s.now }
 {
@@ -313,17 +310,15 @@ fn begins_with_one(s: &[u8]) -> bool
     }
 }
 
-// Is there anything but spaces among these bytes? 0 where not. Every byte is looked at, so that the compiler takes many at a time:
-// `all`, which stops at the first, takes 20 % longer on blank lines.
+// Is there anything but spaces among these bytes? Every byte is looked at and nothing jumps, so that the compiler takes many at a time:
+// `any`, which stops at the first, takes 20 % longer on blank lines.
 #[tactic(auto, using(crate::proofs::Spacing::spaces_more))]
-fn others_in(s: &[u8]) -> u8
-    ensures { result ≡ 0 → Spaces s.now (length s.now) }
+fn others_in(s: &[u8]) -> bool
+    ensures { result ≡ false → Spaces s.now (length s.now) }
 {
-    let mut others: u8 = 0;
+    let mut others = false;
     for &b in s {
-        if b != b' ' {
-            others = 1;
-        }
+        others = others | (b != b' ');
     }
     others
 }
@@ -332,7 +327,7 @@ fn others_in(s: &[u8]) -> u8
 fn spaces_end(s: &[u8]) -> usize
     ensures { Spaces s.now result × (result ≤ length s.now) }
 {
-    let far = blocks_end::<16, _>(s, 0, |block| others_in(block) == 0);
+    let far = blocks_end::<16, _>(s, 0, |block| !others_in(block));
     buffers::find_from(s, far, |b| b != b' ')
 }
 

@@ -47,11 +47,6 @@ short_code b o = go (eqb b (code "0")) (eqb b (code "t")) (eqb b (code "n")) (eq
     go false false false false false false true = refl
     go false false false false false false false = refl
 
-pub no_letter : (b : ℕ) → (b ≡ code "0" → ⊥) → (b ≡ code "t" → ⊥) → (b ≡ code "n" → ⊥) → (b ≡ code "r" → ⊥) → (b ≡ code "\"" → ⊥) → (b ≡ code "'" → ⊥) → (b ≡ code "\\" → ⊥) → short_of b ≡ None
-unfolding short_of
-no_letter b h1 h2 h3 h4 h5 h6 h7 =
-    rw (ne_eqb b (code "0") h1, ne_eqb b (code "t") h2, ne_eqb b (code "n") h3, ne_eqb b (code "r") h4, ne_eqb b (code "\"") h5, ne_eqb b (code "'") h6, ne_eqb b (code "\\") h7)
-
 -- a short escape stands for an ASCII character
 pub short_ascii : (b c : ℕ) → short_of b ≡ Some c → c < 128
 unfolding short_of

@@ -12,7 +12,6 @@ use lib.Dec.{eqb}
 use lib.ListN.{length, get_or, take, drop, length-append, length-take, length-drop, drop_of_length-le}
 use lib.Seq.{drop-cons, drop-drop, take-add}
 use borrow.Author.Tests.{ne_eqb}
-use Rattle.buffers.proofs.Appending.{length_part}
 use Rattle.buffers.proofs.Choice.{both_arms}
 use Rattle.buffers.proofs.Skipping.{skipped}
 use Rattle.chars.specs.Utf8.{encode}
@@ -112,13 +111,6 @@ module _ (s : List ℕ) (i : ℕ) where
   pub run_moves : (stop : ℕ) → stop ≡ i + plain_run (drop i s) → i < length s → (get_or s i 0 ≡ code "\\" → ⊥) → i < stop
   run_moves stop e h b = omega (arith, run_plain_at s i h b)
 
-  pub run_size : (stop : ℕ) → stop ≡ i + plain_run (drop i s) → i ≤ length s
-      → length (unescape (drop i s)) ≡ stop - i + length (unescape (drop stop s))
-  run_size stop e h =
-      ap length (run_at stop e)
-      ∙ length-append (take (stop - i) (drop i s)) (unescape (drop stop s))
-      ∙ ap (λ (k : ℕ). k + length (unescape (drop stop s))) (length_part i (stop - i) s (omega (arith, run_ends stop e h)))
-
   module _ (h : i < length s) (b : get_or s i 0 ≡ code "\\") where
     escape_here : (e : Escape) → escape_at (drop (i + 1) s) ≡ e → unescape (drop i s) ≡ stands_for (drop i s) e ++ unescape (drop (i + 1 + bytes_taken e) s)
     escape_here e f =
@@ -140,27 +132,12 @@ module _ (s : List ℕ) (i : ℕ) where
     pub short_ends : (c : ℕ) → short_of (get_or s (i + 1) 0) ≡ Some c → i + 2 ≤ length s
     short_ends c e = omega (arith, char_ends c 1 (short_at s (i + 1) c e))
 
-    pub short_size : (c : ℕ) → short_of (get_or s (i + 1) 0) ≡ Some c → length (unescape (drop i s)) ≡ 1 + length (unescape (drop (i + 2) s))
-    short_size c e = ap length (short_piece c e) ∙ length-append (c ∷ []) (unescape (drop (i + 2) s))
-
-    pub char_size : (v n : ℕ) → escape_at (drop (i + 1) s) ≡ Char v n
-        → length (unescape (drop i s)) ≡ length (encode v) + length (unescape (drop (i + 1 + n) s))
-    char_size v n f = ap length (char_stands_at v n f) ∙ length-append (encode v) (unescape (drop (i + 1 + n) s))
-
     pub verbatim_at : (n stop : ℕ) → stop ≡ i + 1 + n → escape_at (drop (i + 1) s) ≡ Verbatim n
         → unescape (drop i s) ≡ take (stop - i) (drop i s) ++ unescape (drop stop s)
     verbatim_at n stop e f = let k : stop - i ≡ suc n = omega arith in rw (k, e) (escape_here (Verbatim n) f)
 
     pub verbatim_ends : (n : ℕ) → escape_at (drop (i + 1) s) ≡ Verbatim n → i + 1 + n ≤ length s
     verbatim_ends n f = let k = held_verbatim (drop (i + 1) s) n f in omega (arith, length-drop (i + 1) s)
-
-    pub verbatim_size : (n : ℕ) → escape_at (drop (i + 1) s) ≡ Verbatim n
-        → length (unescape (drop i s)) ≡ 1 + n + length (unescape (drop (i + 1 + n) s))
-    verbatim_size n f =
-        let k : i + 1 + n - i ≡ 1 + n = omega arith in
-        ap length (verbatim_at n (i + 1 + n) refl f)
-        ∙ length-append (take (i + 1 + n - i) (drop i s)) (unescape (drop (i + 1 + n) s))
-        ∙ ap (λ (m : ℕ). m + length (unescape (drop (i + 1 + n) s))) (length_part i (i + 1 + n - i) s (omega (arith, verbatim_ends n f)) ∙ k)
 
 -- what is no escape, and the run behind it
 runs_joined : (s : List ℕ) (i p stop : ℕ) → i ≤ p → p ≤ stop → take (p - i) (drop i s) ++ take (stop - p) (drop p s) ≡ take (stop - i) (drop i s)

@@ -30,7 +30,8 @@ fn hex_at(s: &[u8], i: usize) -> Option<u32>
     (b as char).to_digit(16)
 }
 
-// Past the place `at`, \u{..} names nothing: it stands for itself up to its }, or to the end. The u is at `from`.
+// Past the place `at`, \u{..} names nothing: it stands for itself up to its }, or to the end. The u is at `from`. Not by `find_from`, whose
+// length for none would have to be told from a place again.
 fn stand(s: &[u8], from: usize, at: usize) -> Escape
     requires { (from ≤ at) × (at ≤ length s.now) }
     ensures { result ≡ braces unnamed (at - from) (drop at s.now) }
@@ -212,7 +213,8 @@ fn append_unescaped<S: Sink>(sink: &mut S, s: &[u8])
     *sink = here;
 }
 
-// Puts what s stands for; a text never stands for a longer one.
+// Puts what s stands for; a text never stands for a longer one. Beside `append_unescaped`, since callers know how long s is, and not how long
+// what it stands for.
 pub fn unescape<S: Sink>(sink: &mut S, s: &[u8])
     requires { S.room sink.old (length s.now) }
     ensures { S.put sink.old (unescape s.now) sink.new }

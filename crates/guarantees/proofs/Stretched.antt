@@ -19,21 +19,20 @@ use Rattle.logs.specs.declared.Cursor.{Cursor}
 use Rattle.logs.proofs.Cutting.{first_lines, lines_behind}
 use Rattle.logs.proofs.Judging.{judge_too_long}
 use Rattle.log_listing.specs.Night.{line_text, event_in, events_from, count_text, refusal_text, night_text, night_listing}
-use Rattle.log_listing.specs.Stretch.{Piece, more, last, first_piece, line_piece, stretch_at, piece_text, stretch_of, StretchWhole, written_count, left, Falls}
+use Rattle.log_listing.specs.Stretch.{Piece, more, last, first_piece, line_piece, stretch_at, stretch_of, StretchWhole, left, Falls}
 use Rattle.log_listing.specs.declared.Place.{Place}
 use Rattle.log_listing.specs.declared.Place.TheVariants.{Start, Line}
 use Rattle.log_listing.proofs.Pieces.{onward}
 use Rattle.guarantees.proofs.Agreement.{accepted_iff}
 use Rattle.guarantees.specs.Stretches.{Call, after_call, Run, wrote}
-use Rattle.std.specs.Prelude.{Err, Ok, Result}
+use Rattle.std.specs.Prelude.{Err, IfSome, None, Ok, Option, Result, Some}
 use Rattle.logs.specs.declared.LineRefusal.{LineRefusal}
 
 -- ---- one call
 
 -- what a call wrote is its piece's text
-text_of : (p : Piece) (c : Call) → StretchWhole p c.lent c.answer c.output → take (written_count c.answer) c.output ≡ piece_text p
-text_of (more t q) c w = rw (w.answer, w.output) (take-append_seam t (drop (length t) c.lent))
-text_of (last t) c w = rw (w.answer, w.output) (take-append_seam t (drop (length t) c.lent))
+text_of : (p : Piece) (c : Call) → StretchWhole p c.lent c.answer c.output → take c.answer.size c.output ≡ p.text
+text_of p c w = rw (w.answer, w.output) (take-append_seam p.text (drop (length p.text) c.lent))
 
 -- a line has one event at most
 one_at_most : (a : Answer) → event_in a ≤ 1
@@ -98,22 +97,22 @@ module _ (s : List ℕ) where
 
   -- a call that gives a piece
   abbrev call_of : Piece → Call
-  call_of p = record { lent = []; answer = stretch_of p; output = piece_text p ++ drop (length (piece_text p)) [] }
+  call_of p = record { lent = []; answer = stretch_of p; output = p.text ++ drop (length p.text) [] }
 
-  gives : (p : Piece) → StretchWhole p [] (stretch_of p) (piece_text p ++ drop (length (piece_text p)) [])
+  gives : (p : Piece) → StretchWhole p [] (stretch_of p) (p.text ++ drop (length p.text) [])
   gives p = record { answer = refl; output = refl }
 
   -- one call, where those behind it are at hand
-  run_on : (p : Place) (x : Piece) → stretch_at s p ≡ x → Falls s p (stretch_of x) → ((q : Place) → left s q < left s p → (cs : List Call) × Run s q cs)
-      → (cs : List Call) × Run s p cs
+  run_on : (p : Place) (t : List ℕ) (n : Option Place) → stretch_at s p ≡ record { text = t; next = n } → IfSome n (λ q. left s q < left s p)
+      → ((q : Place) → left s q < left s p → (cs : List Call) × Run s q cs) → (cs : List Call) × Run s p cs
   unfolding Run
-  run_on p (more t q) e f on = let r = on q f in (call_of (more t q) ∷ r.0, (rw e (gives (more t q)), r.1))
-  run_on p (last t) e f on = (call_of (last t) ∷ [], (rw e (gives (last t)), refl))
+  run_on p t (Some q) e f on = let r = on q f in (call_of (more t q) ∷ r.0, (rw e (gives (more t q)), r.1))
+  run_on p t None e f on = (call_of (last t) ∷ [], (rw e (gives (last t)), refl))
 
   -- less is left from call to call
   run_from : (most : ℕ) (p : Place) → left s p ≤ most → (cs : List Call) × Run s p cs
-  run_from zero p h = run_on p (stretch_at s p) refl (onward s p [] _ _ (gives (stretch_at s p))).falls (λ q less. absurd (omega (arith, less, h)))
-  run_from (suc most) p h = run_on p (stretch_at s p) refl (onward s p [] _ _ (gives (stretch_at s p))).falls (λ q less. run_from most q (omega (arith, less, h)))
+  run_from zero p h = run_on p (stretch_at s p).text (stretch_at s p).next refl (onward s p [] _ _ (gives (stretch_at s p))).falls (λ q less. absurd (omega (arith, less, h)))
+  run_from (suc most) p h = run_on p (stretch_at s p).text (stretch_at s p).next refl (onward s p [] _ _ (gives (stretch_at s p))).falls (λ q less. run_from most q (omega (arith, less, h)))
 
   pub run_exists : (cs : List Call) × Run s Start cs
   run_exists = run_from (left s Start) Start (omega arith)

@@ -1,6 +1,6 @@
 -- What ends a number: nothing or an exponent, by the places at which the code reads it.
 -- Assumes nothing.
-use Rattle.std.proofs.Common.{◌≡◌, ℕ, ◌+◌, ◌<◌, ◌≤◌, Bool, true, false, ◌&&◌, ltb, leb, List, ◌∷◌, length, get_or, drop, refl, ap, ◌∙◌, arith, drop_of_length-le, drop-drop, le-ltb, lt-ltb, ne_eqb}
+use Rattle.std.proofs.Common.{◌≡◌, ℕ, ◌+◌, ◌<◌, ◌≤◌, Bool, true, false, ◌&&◌, ltb, leb, List, ◌∷◌, length, get_or, drop, refl, ap, ◌∙◌, arith, drop-drop, le-ltb, lt-ltb, ne_eqb}
 use Prim.Native.Char.{code}
 use Rattle.numbers.specs.Grammar.{at_end, matches, one_byte, opt, one_or_more}
 use Rattle.numbers.specs.Digits.{is_digit, is_sign, leading_digits, signs}
@@ -28,13 +28,7 @@ tail_exponent b r =
     ∙ ap (λ (t : Bool). is_exponent_letter b && t) (opt_sign (one_or_more is_digit at_end) no_sign_digits r ∙ one_or_more_run at_end (λ _ _ _. refl) (drop (signs r) r))
 
 module _ (s : List ℕ) (from : ℕ) where
-  pub tail_end : length s ≤ from → tail (drop from s) ≡ true
-  tail_end h = rw (drop_of_length-le s h)
-
   module _ (inside : from < length s) where
-    pub tail_other : is_exponent_letter (get_or s from 0) ≡ false → tail (drop from s) ≡ false
-    tail_other e = rw (byte_and_rest s from inside, tail_exponent (get_or s from 0) (drop (from + 1) s), e)
-
     module _ (start end : ℕ) (isE : is_exponent_letter (get_or s from 0) ≡ true)
         (signed : start ≡ from + 1 + signs (drop (from + 1) s)) (ends : end ≡ start + leading_digits (drop start s)) where
       by_digits : tail (drop from s) ≡ (ltb 0 (leading_digits (drop start s)) && leb (length s) end)

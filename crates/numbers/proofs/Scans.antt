@@ -1,9 +1,9 @@
 -- A run of digits and a sign at a place of a text, as the code scans them.
 -- Assumes nothing.
-use Rattle.std.proofs.Common.{◌≡◌, ℕ, ◌+◌, ◌<◌, ◌≤◌, true, false, leb, List, ◌∷◌, length, get_or, drop, sym, add-one, drop_of_length-le, drop-cons, eq-eqb, ne_eqb, leb-true}
+use Rattle.std.proofs.Common.{◌≡◌, ℕ, ◌+◌, ◌<◌, ◌≤◌, true, false, leb, List, ◌∷◌, length, get_or, drop, sym, add-one, drop_of_length-le, drop-cons, leb-true}
 use Prim.Native.Char.{code}
 use Rattle.buffers.proofs.Choice.{and_left, and_right}
-use Rattle.numbers.specs.Digits.{is_digit, is_sign, leading_digits, signs}
+use Rattle.numbers.specs.Digits.{is_digit, leading_digits, signs}
 
 -- the byte at a place and what follows it
 pub byte_and_rest : (s : List ℕ) (i : ℕ) → i < length s → drop i s ≡ get_or s i 0 ∷ drop (i + 1) s
@@ -22,23 +22,8 @@ module _ (s : List ℕ) (i : ℕ) where
   unfolding leading_digits
   run_end h = rw (drop_of_length-le s h)
 
-  pub sign_on : i < length s → is_sign (get_or s i 0) ≡ true → signs (drop i s) ≡ 1
-  sign_on h d = rw (byte_and_rest s i h, d)
-
-  pub sign_off : i < length s → is_sign (get_or s i 0) ≡ false → signs (drop i s) ≡ 0
-  sign_off h d = rw (byte_and_rest s i h, d)
-
   pub sign_end : length s ≤ i → signs (drop i s) ≡ 0
   sign_end h = rw (drop_of_length-le s h)
-
-pub is_plus : (b : ℕ) → b ≡ code "+" → is_sign b ≡ true
-is_plus b e = rw (eq-eqb b (code "+") e)
-
-pub is_minus : (b : ℕ) → b ≡ code "-" → is_sign b ≡ true
-is_minus b e = rw e
-
-pub no_sign : (b : ℕ) → (b ≡ code "+" → ⊥) → (b ≡ code "-" → ⊥) → is_sign b ≡ false
-no_sign b p m = rw (ne_eqb b (code "+") p, ne_eqb b (code "-") m)
 
 pub digit_least : (b : ℕ) → is_digit b ≡ true → code "0" ≤ b
 digit_least b d = leb-true (code "0") b (and_left (leb (code "0") b) (leb b (code "9")) d)

@@ -4,7 +4,7 @@
 
 ghost use Rattle.std.specs.Prelude.{◌≡◌, ◌+◌, ◌^◌, ◌≤◌, drop};
 ghost use Rattle.numbers.specs.Grammar.{matches, opt};
-ghost use Rattle.numbers.specs.Digits.{is_digit, leading_digits, signs};
+ghost use Rattle.numbers.specs.Digits.{leading_digits, signs};
 ghost use Rattle.numbers.specs.Integer.{i64_of, up_to};
 ghost use Rattle.numbers.specs.Decimal.{is_exponent_letter, exponent, is_decimal};
 
@@ -16,7 +16,7 @@ const MIN_MAGNITUDE: u64 = i64::MAX as u64 + 1;
 // A number above this passes both with one digit more. `checked_mul` in its place costs 1.4 % more instructions on logs of flat lists.
 const FULL: u64 = MIN_MAGNITUDE / 10;
 
-// Where the digits from `from` on end.
+// Where the digits from `from` on end. Not by `buffers::find_from`: `from` may lie past the end.
 fn digits_end(s: &[u8], from: usize) -> usize
     ensures { result ≡ from + leading_digits (drop from s.now) }
 {

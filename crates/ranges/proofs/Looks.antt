@@ -1,18 +1,19 @@
 -- How the tables say a character is written, by the tests that lead there.
 -- Assumes nothing.
-use mathlib.Core.Path.{◌≡◌, sym, ◌∙◌}
-use mathlib.Core.Logic.{inl, inr}
+use mathlib.Core.Path.{◌≡◌, sym, subst, ◌∙◌}
 use mathlib.Core.Bool.{Bool, true, false}
 use mathlib.Core.List.{List}
 use Prim.Native.Nat.{ℕ, ◌<◌, zero-le, suc-le-suc}
 use lib.ListN.{length}
+use Rattle.std.specs.Prelude.{IfSome, Option, Some}
 use Rattle.buffers.proofs.Choice.{and_false}
 use Rattle.ranges.specs.Ranges.{member}
 use Rattle.ranges.specs.EscapedAnywhere.{escaped_anywhere}
 use Rattle.ranges.specs.FirstOnly.{first_only}
 use Rattle.ranges.specs.Hidden.{pinned, hidden}
-use Rattle.ranges.specs.Look.{look_of, TablesLent}
+use Rattle.ranges.specs.Look.{look_of, HiddenLent, TablesLent}
 use Rattle.ranges.specs.declared.EscapeTables.{EscapeTables}
+use Rattle.ranges.specs.declared.HiddenTables.{HiddenTables}
 use Rattle.ranges.specs.declared.Look.TheVariants.{Number, Itself}
 
 pub hidden_never : (first : Bool) (c : ℕ) → member escaped_anywhere c ≡ false → member first_only c ≡ false → hidden pinned first c ≡ false
@@ -40,14 +41,13 @@ pub later_itself : (c : ℕ) → member escaped_anywhere c ≡ false → look_of
 unfolding hidden
 later_itself c e = rw e
 
--- where the first table has entries both are lent
-pub lent_both : (t : EscapeTables) → TablesLent t → (length t.anywhere.now ≡ 0 → ⊥) → (t.anywhere.now ≡ escaped_anywhere) × (t.firsts.now ≡ first_only)
-lent_both t (e, inl n) h = absurd (h n)
-lent_both t (e, inr l) h = l
-
 -- a test of a lent table is one of the table itself
 pub lent_test : {xs ys : List ℕ} {r b : Bool} (c : ℕ) → xs ≡ ys → r ≡ member xs c → r ≡ b → member ys c ≡ b
 lent_test c e m f = rw (← e) (sym m ∙ f)
+
+-- where the hidden tables are lent, they are those of here, and the first has boundaries
+pub lent_both : (t : EscapeTables) (h : HiddenTables) → TablesLent t → t.hidden ≡ Some h → (h.anywhere.now ≡ escaped_anywhere) × (h.firsts.now ≡ first_only)
+lent_both t h (e, l) s = subst (λ (o : Option HiddenTables). IfSome o HiddenLent) s l
 
 pub table_filled : 0 < length escaped_anywhere
 unfolding escaped_anywhere

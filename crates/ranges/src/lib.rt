@@ -28,12 +28,18 @@ pub const COMMON: [u32; 28] = [
     12353, 12439, 12443, 12544, 12832, 42125, 44032, 55204, 65281, 65438, 127744, 128729,
 ];
 
-// The tables that `look_of` asks, where they lie: `common` is that of here, and the other two are those of here, or empty.
+// The tables of what is written as numbers, where they lie: wherever it stands, and as first character alone.
+#[derive(Clone, Copy)]
+pub struct HiddenTables<'a> {
+    pub anywhere: &'a [u32],
+    pub firsts: &'a [u32],
+}
+
+// The tables that `look_of` asks: `common` is that of here, and so are the hidden ones, where they are lent.
 #[derive(Clone, Copy)]
 pub struct EscapeTables<'a> {
     pub common: &'a [u32],
-    pub anywhere: &'a [u32],
-    pub firsts: &'a [u32],
+    pub hidden: Option<HiddenTables<'a>>,
 }
 
 // How many boundaries of the table are at most c.
@@ -70,9 +76,9 @@ pub fn first_only() -> [u32; 762]
 }
 
 // How a character beyond printable ASCII is written by the tables; Unknown only where none are lent.
-pub fn look_of(tables: EscapeTables, c: u32, first: bool) -> Look
-    requires { TablesLent tables × (127 ≤ c) }
-    ensures { Settled tables.entry.anywhere.now first c result }
+pub fn look_of(tables: &EscapeTables, c: u32, first: bool) -> Look
+    requires { TablesLent tables.now × (127 ≤ c) }
+    ensures { Settled tables.now.hidden first c result }
 {
     if c < 161 {
         return Look::Number;
@@ -80,14 +86,14 @@ pub fn look_of(tables: EscapeTables, c: u32, first: bool) -> Look
     if in_ranges(tables.common, c) {
         return Look::Itself;
     }
-    if tables.anywhere.len() == 0 {
+    let Some(hidden) = tables.hidden else {
         return Look::Unknown;
-    }
-    if in_ranges(tables.anywhere, c) {
+    };
+    if in_ranges(hidden.anywhere, c) {
         return Look::Number;
     }
     if first {
-        if in_ranges(tables.firsts, c) {
+        if in_ranges(hidden.firsts, c) {
             return Look::Number;
         }
     }

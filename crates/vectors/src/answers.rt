@@ -1,42 +1,59 @@
 // What the oracle answered beside what our functions gave and wrote.
-ghost use Rattle.std.specs.Prelude.{◌≡◌};
+ghost use Rattle.std.specs.Prelude.{◌≡◌, ◌↔◌, ◌*◌, ◌/◌, ◌≤◌, ◌<◌, IsTrue, MatchOption, length, drop, slice_index};
+ghost use Rattle.std.specs.Result.{result_map_both};
+ghost use Rattle.std.specs.Int.{w64, from_le_bytes};
 ghost use Rattle.format.specs.Refusals.{number};
+ghost use Rattle.vectors.specs.Answers.{IsAnswer, IsWritten};
+ghost use Rattle.vectors.specs.Looks.{HoldsBytes, HoldsNumbers};
 
-use crate::{control, little};
+use crate::control::Look;
+use crate::little;
 use format::Refusal;
 
 // How long an output is: longer than any answer.
 pub const OUTPUT: usize = 32_768;
 
+// What is expected of a call that writes: this text, or the refusal of this number, none where the stored answer has no refusal's form.
+pub type Expected<'a> = Result<&'a [u8], Option<u8>>;
+
 // The number of a refusal.
 pub fn number(refusal: Refusal) -> u64
     ensures { result ≡ number refusal }
 {
-    little::wide(refusal.into())
+    u64::from(u8::from(refusal))
 }
 
 // Is the answer so many bytes, at most nine: this one, and a number in the others?
-pub fn is(answer: &[u8], size: usize, first: u64, number: u64) -> bool {
+pub fn is(answer: &[u8], size: usize, first: u64, number: u64) -> bool
+    ensures { IsTrue result ↔ IsAnswer answer.now size first number }
+{
     (answer.len() == size)
         & (little::byte(answer, 0) == first)
         & (little::eight(answer, 1) == number)
 }
 
-// What is to be written: what the answer has behind a first byte 1, or nothing.
-pub fn written(answer: &[u8]) -> &[u8] {
-    if little::byte(answer, 0) == 1 {
-        return little::rest_of(answer, 1);
+// Did a call write as many entries of so many bytes as are expected, or refuse as expected?
+pub fn is_written(written: Result<usize, Refusal>, size: usize, expected: Expected) -> bool
+    ensures { IsTrue result ↔ IsWritten size written (result_map_both (λ text. text.now) (λ n. n) expected.entry) }
+{
+    match (written, expected) {
+        (Ok(n), Ok(text)) => n.checked_mul(size) == Some(text.len()),
+        (Err(e), Err(number)) => number == Some(e.into()),
+        _ => false,
     }
-    little::first_part(answer, 0)
 }
 
 // The byte of a text.
-fn byte_at(text: &[u8], at: usize) -> Option<u64> {
-    text.get(at).map(|&b| little::wide(b))
+fn byte_at(text: &[u8], at: usize) -> Option<u64>
+    ensures { MatchOption result (length text.now ≤ at) (λ b. (at < length text.now) × (b ≡ slice_index text.now at)) }
+{
+    text.get(at).map(|&b| u64::from(b))
 }
 
 // The number that stands in eight bytes of a text.
-fn number_at(text: &[u8], at: usize) -> Option<u64> {
+fn number_at(text: &[u8], at: usize) -> Option<u64>
+    ensures { MatchOption result (length text.now / 8 ≤ at) (λ n. (at < length text.now / 8) × (n ≡ from_le_bytes w64 (drop (at * 8) text.now))) }
+{
     if at < text.len() / 8 {
         return Some(little::eight(text, at * 8));
     }
@@ -44,26 +61,27 @@ fn number_at(text: &[u8], at: usize) -> Option<u64> {
 }
 
 // Does a table of bytes hold this text and nothing else?
-pub fn bytes_hold(s: &[u8], text: &[u8], used: usize, table: usize, wrong: usize) -> bool {
+pub fn bytes_hold(s: &[u8], text: &[u8], look: Look) -> bool
+    ensures { IsTrue result ↔ HoldsBytes s.now text.now look }
+{
     let mut same = text.len() <= s.len();
+    // no `all`: with it the program takes a fifth longer
     for (i, &b) in s.iter().enumerate() {
-        let unwritten = control::unwritten(i, used, table, wrong);
-        same = same & (little::wide(b) == byte_at(text, i).unwrap_or(unwritten));
+        let unwritten = look.unwritten(i);
+        same = same & (u64::from(b) == byte_at(text, i).unwrap_or(unwritten));
     }
     same
 }
 
-// The same for an output, of which nothing is cleared.
-pub fn output_holds(out: &[u8; OUTPUT], text: &[u8], wrong: usize) -> bool {
-    bytes_hold(out, text, 0, control::OUTPUT, wrong)
-}
-
 // Does a table of numbers hold those of this text, eight bytes each, and nothing else? One function for this and `bytes_hold` would take
 // two closures for two lines.
-pub fn numbers_hold(s: &[u64], text: &[u8], used: usize, table: usize, wrong: usize) -> bool {
+pub fn numbers_hold(s: &[u64], text: &[u8], look: Look) -> bool
+    ensures { IsTrue result ↔ HoldsNumbers s.now text.now look }
+{
     let mut same = text.len() / 8 <= s.len();
+    // no `all`, as above
     for (i, &number) in s.iter().enumerate() {
-        let unwritten = control::unwritten(i, used, table, wrong);
+        let unwritten = look.unwritten(i);
         same = same & (number == number_at(text, i).unwrap_or(unwritten));
     }
     same

@@ -2,6 +2,8 @@
 // expects another value than it should. `wrong` says which look: 0 none, else the number of a table for its cleared entries,
 // four more for its entries that are as they were lent, or what stands below. It is a number and no enum, since it is a byte of the stored
 // answers.
+ghost use Rattle.std.specs.Prelude.{◌≡◌};
+ghost use Rattle.vectors.specs.Looks.{unwritten};
 
 pub const GROUP: usize = 10;
 
@@ -19,13 +21,25 @@ pub const JUST_FULL: usize = 9;
 
 pub const ONE_SHORT: usize = 10;
 
-// What an entry of a table is expected to hold that was not written: zero before the place `used`, and from there on what was lent.
-pub fn unwritten(at: usize, used: usize, table: usize, wrong: usize) -> u64 {
-    if at < used {
-        return (wrong == table) as u64;
+// A look at a table: its number, before which place its entries are cleared, and which look is to expect something wrong.
+#[derive(Clone, Copy)]
+pub struct Look {
+    pub table: usize,
+    pub used: usize,
+    pub wrong: usize,
+}
+
+impl Look {
+    // What an entry of the table is expected to hold that was not written: zero before the place `used`, and from there on what was lent.
+    pub fn unwritten(self, at: usize) -> u64
+        ensures { result ≡ unwritten self at }
+    {
+        if at < self.used {
+            return (self.wrong == self.table) as u64;
+        }
+        if self.table.checked_add(4) == Some(self.wrong) {
+            return 78;
+        }
+        77
     }
-    if wrong == table.wrapping_add(4) {
-        return 78;
-    }
-    77
 }

@@ -1,48 +1,31 @@
-// Cases of the crates escapes and keys. A text is expected, or a refusal of one byte: the other of the two is empty.
+// Cases of the crates escapes and keys.
+use crate::answers::Expected;
+use crate::cases::Case;
 use crate::{answers, little};
-use format::Refusal;
 
-fn same_written(written: Result<usize, Refusal>, text: &[u8], refusal: &[u8]) -> bool {
-    match written {
-        Ok(n) => (n == text.len()) & (refusal.len() == 0),
-        Err(e) => answers::is(refusal, 1, answers::number(e), 0),
-    }
-}
-
-fn decode_case(input: &[u8], text: &[u8], refusal: &[u8], wrong: usize) -> bool {
+fn decode_case(case: Case, expected: Expected) -> bool {
     let mut out = [77u8; answers::OUTPUT];
-    let decoded = escapes::decode(&mut out, input);
-    same_written(decoded, text, refusal) & answers::output_holds(&out, text, wrong)
+    let decoded = escapes::decode(&mut out, case.input);
+    answers::is_written(decoded, 1, expected) & case.output_holds(&out, expected.unwrap_or(&[]))
 }
 
-// A type of so many bytes, and then the id.
-fn key_case(input: &[u8], size: usize, text: &[u8], refusal: &[u8], wrong: usize) -> bool {
-    let ty = little::first_part(input, size);
-    let id = little::rest_of(input, size);
+// The input is a type of so many bytes, and then the id.
+fn key_case(case: Case, size: u64, expected: Expected) -> bool {
+    let ty = little::first_part(case.input, size as usize);
+    let id = little::rest_of(case.input, size as usize);
     let mut out = [77u8; answers::OUTPUT];
     let spelled = keys::spell_key(&mut out, ty, id);
-    same_written(spelled, text, refusal) & answers::output_holds(&out, text, wrong)
+    answers::is_written(spelled, 1, expected) & case.output_holds(&out, expected.unwrap_or(&[]))
 }
 
-pub fn agrees(op: usize, input: &[u8], answer: &[u8], wrong: usize) -> bool {
-    let none = little::first_part(answer, 0);
+pub fn agrees(op: usize, case: Case) -> bool {
+    let text = Ok(case.answer);
+    let refusal = Err(case.refusal());
     match op {
-        1 => decode_case(input, answer, none, wrong),
-        2 => key_case(
-            little::rest_of(input, 2),
-            little::two(input, 0) as usize,
-            answer,
-            none,
-            wrong,
-        ),
-        3 => decode_case(input, none, answer, wrong),
-        4 => key_case(
-            little::rest_of(input, 4),
-            little::four(input, 0) as usize,
-            none,
-            answer,
-            wrong,
-        ),
+        1 => decode_case(case, text),
+        2 => key_case(case.behind(2), little::two(case.input, 0), text),
+        3 => decode_case(case, refusal),
+        4 => key_case(case.behind(4), little::four(case.input, 0), refusal),
         _ => false,
     }
 }

@@ -1,27 +1,26 @@
 // Cases of the crate lines: what a line gives and what the tables then hold.
-use crate::packs::TableLengths;
-use crate::{answers, little, packs};
+ghost use Rattle.std.specs.Prelude.{◌↔◌, IsTrue};
+ghost use Rattle.vectors.specs.Answers.{IsRead};
+
+use crate::cases::Case;
+use crate::packs;
+use crate::packs::{Lent, TableLengths};
 use format::{Reach, Refusal};
 
-// 0 and the refusal, or 1 and the pack, or 2 for a blank line.
-fn same_line(read: Result<Option<Reach>, Refusal>, answer: &[u8]) -> bool {
+// 0 and the refusal, or 1 and the pack, or 2 for a blank line. One function for this and `same_listed` would take the first arm as a closure.
+fn same_line(read: Result<Option<Reach>, Refusal>, case: Case) -> bool
+    ensures { IsTrue result ↔ IsRead case.entry.answer.now read }
+{
     match read {
-        Ok(Some(sizes)) => packs::is_pack(answer, sizes),
-        Ok(None) => answers::is(answer, 1, 2, 0),
-        Err(e) => answers::is(answer, 2, 0, answers::number(e)),
+        Ok(Some(sizes)) => packs::is_pack(case.answer, sizes),
+        Ok(None) => case.is(1, 2, 0),
+        Err(e) => case.refuses(e),
     }
 }
 
-pub fn agrees(lent: TableLengths, input: &[u8], answer: &[u8], wrong: usize) -> bool {
-    let pack = answers::written(answer);
-    let mut kinds = [77u8; packs::KINDS];
-    let mut numbers = [77u64; packs::NUMBERS];
-    let mut texts = [77u8; packs::TEXTS];
-    let read = lines::read_line(
-        little::lent_part(&mut kinds, lent.kinds),
-        little::lent_part(&mut numbers, lent.numbers),
-        little::lent_part(&mut texts, lent.texts),
-        input,
-    );
-    same_line(read, answer) & packs::left_by(answer, pack, &kinds, &numbers, &texts, wrong)
+pub fn agrees(lengths: TableLengths, case: Case) -> bool {
+    let mut lent = Lent::new();
+    let (kinds, numbers, texts) = lent.parts(lengths);
+    let read = lines::read_line(kinds, numbers, texts, case.input);
+    same_line(read, case) & lent.left_by(case, case.text())
 }

@@ -1,38 +1,35 @@
 // Cases of the crate listing: what a line lists, and what the output and the tables then hold.
-use crate::packs::TableLengths;
-use crate::{answers, little, packs};
+ghost use Rattle.std.specs.Prelude.{◌↔◌, IsTrue};
+ghost use Rattle.vectors.specs.Answers.{IsListed};
+
+use crate::cases::Case;
+use crate::packs::{Lent, TableLengths};
+use crate::{answers, little};
 use format::Refusal;
 
 // 0 and the refusal, or 1 and the listing, or 2 for a blank line.
-fn same_listed(listed: Result<Option<usize>, Refusal>, answer: &[u8]) -> bool {
+fn same_listed(listed: Result<Option<usize>, Refusal>, case: Case) -> bool
+    ensures { IsTrue result ↔ IsListed case.entry.answer.now listed }
+{
     match listed {
-        Ok(Some(n)) => { (little::byte(answer, 0) == 1) & (answer.len() == little::along(n, 1)) }
-        Ok(None) => answers::is(answer, 1, 2, 0),
-        Err(e) => answers::is(answer, 2, 0, answers::number(e)),
+        Ok(Some(n)) => case.has_text(n),
+        Ok(None) => case.is(1, 2, 0),
+        Err(e) => case.refuses(e),
     }
 }
 
 // The event's number in eight bytes, the length of the output in four, then the line.
-pub fn agrees(lent: TableLengths, input: &[u8], answer: &[u8], wrong: usize) -> bool {
-    let room = little::four(input, 8) as usize;
-    let line = little::rest_of(input, 12);
-    let number = little::eight(input, 0);
-    let listing = answers::written(answer);
-    let none = little::first_part(answer, 0);
-    let mut kinds = [77u8; packs::KINDS];
-    let mut numbers = [77u64; packs::NUMBERS];
-    let mut texts = [77u8; packs::TEXTS];
+pub fn agrees(lengths: TableLengths, case: Case) -> bool {
+    let number = little::eight(case.input, 0);
+    let room = little::four(case.input, 8) as usize;
+    let line = little::rest_of(case.input, 12);
+    let mut lent = Lent::new();
     let mut out = [77u8; answers::OUTPUT];
-    let listed = listing::list_line(
-        little::lent_part(&mut kinds, lent.kinds),
-        little::lent_part(&mut numbers, lent.numbers),
-        little::lent_part(&mut texts, lent.texts),
-        little::lent_part(&mut out, room),
-        line,
-        number,
-    );
+    let (kinds, numbers, texts) = lent.parts(lengths);
+    let part = little::lent_part(&mut out, room);
+    let listed = listing::list_line(kinds, numbers, texts, part, line, number);
     (room <= answers::OUTPUT)
-        & same_listed(listed, answer)
-        & answers::output_holds(&out, listing, wrong)
-        & packs::left_by(answer, none, &kinds, &numbers, &texts, wrong)
+        & same_listed(listed, case)
+        & case.output_holds(&out, case.text())
+        & lent.left_by(case, &[])
 }

@@ -1,62 +1,67 @@
-// Little-endian numbers in a text, past whose end stand zeros; and parts of texts and tables, which end where these do at the latest.
-ghost use Rattle.std.specs.Prelude.{◌≡◌, ◌++◌, ◌<◌, take, drop};
+// Little-endian numbers in a text, past whose end stand zeros; and parts of texts and tables, which end where these do at the latest. So
+// a case that is cut short needs no way out of its own: its answer then differs.
+ghost use Rattle.std.specs.Prelude.{◌≡◌, ◌^◌, ◌<◌, take, drop, slice_index, EachIndex};
+ghost use Rattle.std.specs.Int.{w16, w32, w64, from_le_bytes};
 
 pub fn byte(s: &[u8], at: usize) -> u64
-    ensures { result < 256 }
-{
-    wide(s.get(at).copied().unwrap_or(0))
-}
-
-pub fn wide(b: u8) -> u64
-    ensures value { result ≡ b }
+    ensures value { result ≡ slice_index s.now at }
     ensures bound { result < 256 }
 {
-    u64::from(b)
+    u64::from(s.get(at).copied().unwrap_or(0))
 }
 
-// The place `by` further; it wraps, and then stands past no text that we read.
-pub fn along(at: usize, by: usize) -> usize {
-    at.wrapping_add(by)
+// The first bytes of a text, and zeros where it has fewer.
+fn first_bytes<const N: usize>(s: &[u8]) -> [u8; N]
+    ensures { EachIndex result (λ i. slice_index result i ≡ slice_index s.now i) }
+{
+    let mut bytes = [0u8; N];
+    let there = first_part(s, N);
+    bytes[..there.len()].copy_from_slice(there);
+    bytes
 }
 
 pub fn two(s: &[u8], at: usize) -> u64
-    ensures { result < 65536 }
+    ensures value { result ≡ from_le_bytes w16 (drop at s.now) }
+    ensures bound { result < 2 ^ 16 }
 {
-    byte(s, at) + byte(s, along(at, 1)) * 256
+    u64::from(u16::from_le_bytes(first_bytes(rest_of(s, at))))
 }
 
 pub fn four(s: &[u8], at: usize) -> u64
-    ensures { result < 4294967296 }
+    ensures value { result ≡ from_le_bytes w32 (drop at s.now) }
+    ensures bound { result < 2 ^ 32 }
 {
-    two(s, at) + two(s, along(at, 2)) * 65_536
+    u64::from(u32::from_le_bytes(first_bytes(rest_of(s, at))))
 }
 
-pub fn eight(s: &[u8], at: usize) -> u64 {
-    four(s, at) + four(s, along(at, 4)) * 4_294_967_296
+pub fn eight(s: &[u8], at: usize) -> u64
+    ensures { result ≡ from_le_bytes w64 (drop at s.now) }
+{
+    u64::from_le_bytes(first_bytes(rest_of(s, at)))
 }
 
 // The first n entries, or all where there are fewer.
-pub fn first_part<T>(s: &[T], n: usize) -> &[T] {
-    if n < s.len() {
-        return &s[..n];
-    }
-    s
-}
-
-// At most n bytes from a place on.
-pub fn part(s: &[u8], from: usize, n: usize) -> &[u8] {
-    if from < s.len() {
-        return first_part(&s[from..], n);
-    }
-    first_part(s, 0)
+pub fn first_part<T>(s: &[T], n: usize) -> &[T]
+    ensures { result.now ≡ take n s.now }
+{
+    s.get(..n).unwrap_or(s)
 }
 
 // What is behind the first n bytes.
-pub fn rest_of(s: &[u8], n: usize) -> &[u8] {
-    part(s, n, s.len())
+pub fn rest_of(s: &[u8], n: usize) -> &[u8]
+    ensures { result.now ≡ drop n s.now }
+{
+    s.get(n..).unwrap_or(&[])
 }
 
-// The same of a table, to be lent.
+// At most n bytes from a place on.
+pub fn part(s: &[u8], from: usize, n: usize) -> &[u8]
+    ensures { result.now ≡ take n (drop from s.now) }
+{
+    first_part(rest_of(s, from), n)
+}
+
+// The first n entries of a table, or all where there are fewer, to be lent.
 pub fn lent_part<T>(s: &mut [T], n: usize) -> &mut [T]
     ensures { result.now ≡ take n s.entry.now }
 {

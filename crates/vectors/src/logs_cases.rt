@@ -1,16 +1,22 @@
 // Cases of the crate logs: how a log is judged, and that the tables then hold nothing of it.
-use crate::packs::TableLengths;
-use crate::{answers, little, packs};
+ghost use Rattle.std.specs.Prelude.{◌↔◌, IsTrue};
+ghost use Rattle.vectors.specs.Answers.{IsJudged};
+
+use crate::cases::Case;
+use crate::packs::{Lent, TableLengths};
+use crate::{answers, little};
 use logs::LineRefusal;
 
 // 0, the refusal and its line in four bytes, or 1 and the count of events in four bytes.
-fn same_judged(judged: Result<usize, LineRefusal>, answer: &[u8]) -> bool {
+fn same_judged(judged: Result<usize, LineRefusal>, case: Case) -> bool
+    ensures { IsTrue result ↔ IsJudged case.entry.answer.now judged }
+{
     match judged {
-        Ok(count) => answers::is(answer, 5, 1, count as u64),
+        Ok(count) => case.is(5, 1, count as u64),
         Err(LineRefusal { refusal, line }) => {
-            answers::is(little::first_part(answer, 1), 1, 0, 0)
+            (little::byte(case.answer, 0) == 0)
                 & answers::is(
-                    little::rest_of(answer, 1),
+                    little::rest_of(case.answer, 1),
                     5,
                     answers::number(refusal),
                     line as u64,
@@ -19,16 +25,9 @@ fn same_judged(judged: Result<usize, LineRefusal>, answer: &[u8]) -> bool {
     }
 }
 
-pub fn agrees(lent: TableLengths, input: &[u8], answer: &[u8], wrong: usize) -> bool {
-    let none = little::first_part(answer, 0);
-    let mut kinds = [77u8; packs::KINDS];
-    let mut numbers = [77u64; packs::NUMBERS];
-    let mut texts = [77u8; packs::TEXTS];
-    let judged = logs::judge(
-        little::lent_part(&mut kinds, lent.kinds),
-        little::lent_part(&mut numbers, lent.numbers),
-        little::lent_part(&mut texts, lent.texts),
-        input,
-    );
-    same_judged(judged, answer) & packs::left_by(answer, none, &kinds, &numbers, &texts, wrong)
+pub fn agrees(lengths: TableLengths, case: Case) -> bool {
+    let mut lent = Lent::new();
+    let (kinds, numbers, texts) = lent.parts(lengths);
+    let judged = logs::judge(kinds, numbers, texts, case.input);
+    same_judged(judged, case) & lent.left_by(case, &[])
 }

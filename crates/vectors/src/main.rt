@@ -2,9 +2,15 @@
 // A section is a group (one byte: which crate is asked), a count (u32) and so many cases; a case is an op (one byte), an input
 // and an answer, each behind its length (u32). Numbers are little-endian; vectors/README.md has the ops.
 // Input that is cut short or too long for the buffers ends the replay and is told.
+// What compares says in its contract what it compares. The functions `agrees` of the cases, and those here that call them, promise nothing:
+// that would be the program's own comparison again. That each case is compared shows in the control.
 #![tactic(auto)]
 
+ghost use Rattle.std.specs.Prelude.{◌≡◌, ◌≢◌, drop, slice_index};
+ghost use Rattle.vectors.specs.Tallies.{counted};
+
 mod answers;
+mod cases;
 mod chars_cases;
 mod control;
 mod cuts_cases;
@@ -19,6 +25,8 @@ mod numbers_cases;
 mod packs;
 mod values_cases;
 
+use crate::cases::Case;
+use crate::control::GROUP;
 use crate::input::{read_number, read_text};
 use crate::packs::TableLengths;
 use std::io;
@@ -36,74 +44,66 @@ pub struct Tally {
     pub whole: bool,
 }
 
+// What a case asks, and of which group and op. These are numbers and no enum, since they are bytes of the stored answers.
+#[derive(Clone, Copy)]
+struct Question<'a> {
+    group: usize,
+    op: usize,
+    case: Case<'a>,
+}
+
+// What is asked: a case of the control names group and op before its input, and its own op says which look is to expect something wrong.
+fn question_of(read: Question) -> Question
+    ensures other { read.entry.group ≢ GROUP → result ≡ read.entry }
+    ensures asked { read.entry.group ≡ GROUP → (result.group ≡ slice_index read.entry.case.input.now 0) × (result.op ≡ slice_index read.entry.case.input.now 1) }
+    ensures input { read.entry.group ≡ GROUP → result.case.input.now ≡ drop 2 read.entry.case.input.now }
+    ensures answer { result.case.answer.now ≡ read.entry.case.answer.now }
+    ensures wrong { read.entry.group ≡ GROUP → result.case.wrong ≡ read.entry.op }
+{
+    let Question { group, op, case } = read;
+    if group != GROUP {
+        return read;
+    }
+    Question {
+        group: little::byte(case.input, 0) as usize,
+        op: little::byte(case.input, 1) as usize,
+        case: Case {
+            wrong: op,
+            ..case.behind(2)
+        },
+    }
+}
+
 // Does our function give this answer, with tables lent as the op says? Each case has data of its own, as in `asked`.
-fn lent_asked(group: usize, op: usize, input: &[u8], answer: &[u8], wrong: usize) -> bool {
-    let Some(lent) = TableLengths::by_op(op) else {
+fn lent_asked(q: Question) -> bool {
+    let Some(lengths) = TableLengths::by_op(q.op) else {
         return false;
     };
-    match group {
-        6 => lines_cases::agrees(lent, input, answer, wrong),
-        7 => logs_cases::agrees(lent, input, answer, wrong),
-        8 => listings_cases::agrees(lent, input, answer, wrong),
-        9 => merges_cases::agrees(lent, input, answer, wrong),
+    match q.group {
+        6 => lines_cases::agrees(lengths, q.case),
+        7 => logs_cases::agrees(lengths, q.case),
+        8 => listings_cases::agrees(lengths, q.case),
+        9 => merges_cases::agrees(lengths, q.case),
         _ => false,
     }
 }
 
-// Does our function give this answer? Each case reads data of its own, so that a table of functions would be no plainer. Groups and ops are
-// numbers and no enum, since they are bytes of the stored answers.
-fn asked(group: usize, op: usize, input: &[u8], answer: &[u8], wrong: usize) -> bool {
-    match group {
-        1 => chars_cases::agrees(op, input, answer),
-        2 => numbers_cases::agrees(op, input, answer),
-        3 => cuts_cases::agrees(op, input, answer, wrong),
-        4 => escapes_cases::agrees(op, input, answer, wrong),
-        5 => (op == 1) & values_cases::agrees(input, answer),
-        _ => lent_asked(group, op, input, answer, wrong),
+// Does our function give this answer? Each case reads data of its own, so that a table of functions would be no plainer.
+fn asked(q: Question) -> bool {
+    match q.group {
+        1 => chars_cases::agrees(q.op, q.case),
+        2 => numbers_cases::agrees(q.op, q.case),
+        3 => cuts_cases::agrees(q.op, q.case),
+        4 => escapes_cases::agrees(q.op, q.case),
+        5 => (q.op == 1) & values_cases::agrees(q.case),
+        _ => lent_asked(q),
     }
-}
-
-// What a case asks: which group and op, from which byte of its input on, and which look is to expect something wrong.
-#[derive(Clone, Copy)]
-struct Question {
-    group: usize,
-    op: usize,
-    from: usize,
-    wrong: usize,
-}
-
-// A case of the control names group and op before its input.
-fn question_of(group: usize, op: usize, input: &[u8]) -> Question {
-    if group == control::GROUP {
-        return Question {
-            group: little::byte(input, 0) as usize,
-            op: little::byte(input, 1) as usize,
-            from: 2,
-            wrong: op,
-        };
-    }
-    Question {
-        group,
-        op,
-        from: 0,
-        wrong: 0,
-    }
-}
-
-// One call serves the control and the others, so that a comparison that does nothing shows.
-fn agrees(group: usize, op: usize, input: &[u8], answer: &[u8]) -> bool {
-    let q = question_of(group, op, input);
-    asked(
-        q.group,
-        q.op,
-        little::rest_of(input, q.from),
-        answer,
-        q.wrong,
-    )
 }
 
 // With a case more, which agrees or does not; none was read where the input is cut short.
-fn counted(tally: Tally, same: Option<bool>) -> Tally {
+fn counted(tally: Tally, same: Option<bool>) -> Tally
+    ensures { result ≡ counted tally same }
+{
     let Some(same) = same else {
         return Tally {
             whole: false,
@@ -122,7 +122,8 @@ fn counted(tally: Tally, same: Option<bool>) -> Tally {
     }
 }
 
-// Reads one case of a group. Does its answer agree? None where the input has it not whole.
+// Reads one case of a group. Does its answer agree? None where the input has it not whole. One call serves the control and the others, so
+// that a comparison that does nothing shows.
 fn replay_case(
     reader: &mut impl Read,
     group: usize,
@@ -132,12 +133,12 @@ fn replay_case(
     let op = read_number(reader, 1)?;
     let given = read_text(reader, input)?;
     let expected = read_text(reader, answer)?;
-    Some(agrees(
-        group,
-        op,
-        little::first_part(input, given),
-        little::first_part(answer, expected),
-    ))
+    let case = Case {
+        input: little::first_part(input, given),
+        answer: little::first_part(answer, expected),
+        wrong: 0,
+    };
+    Some(asked(question_of(Question { group, op, case })))
 }
 
 fn replay_section(reader: &mut impl Read, group: usize, count: usize) -> Tally {

@@ -1,18 +1,11 @@
 // Cases of the crate numbers.
-use crate::answers;
+use crate::cases::Case;
 
-// 0, or 1 and the number in eight bytes.
-fn integer_case(input: &[u8], answer: &[u8]) -> bool {
-    match numbers::parse_i64(input) {
-        Some(n) => answers::is(answer, 9, 1, n),
-        None => answers::is(answer, 1, 0, 0),
-    }
-}
-
-pub fn agrees(op: usize, input: &[u8], answer: &[u8]) -> bool {
+// An integer is 0, or 1 and eight bytes.
+pub fn agrees(op: usize, case: Case) -> bool {
     match op {
-        1 => integer_case(input, answer),
-        2 => answers::is(answer, 1, numbers::is_decimal(input) as u64, 0),
+        1 => case.is_number(9, numbers::parse_i64(case.input)),
+        2 => case.is(1, numbers::is_decimal(case.input) as u64, 0),
         _ => false,
     }
 }

@@ -1,47 +1,39 @@
 // Cases of the crate values: a value's pack, compared with the oracle's.
-use crate::{answers, little, packs};
+ghost use Rattle.std.specs.Prelude.{◌↔◌, IsTrue};
+ghost use Rattle.vectors.specs.Looks.{IsValue};
+
+use crate::cases::Case;
+use crate::packs;
+use crate::packs::Lent;
 use format::{Log, Reach, Refusal};
 use pack::Tables;
 
 // 0 and the refusal, or 1 and the pack. Of what stands behind it in the tables nothing is promised.
-fn same_value(
-    read: Result<Reach, Refusal>,
-    kinds: &[u8; packs::KINDS],
-    numbers: &[u64; packs::NUMBERS],
-    texts: &[u8; packs::TEXTS],
-    answer: &[u8],
-) -> bool {
+fn same_value(read: Result<Reach, Refusal>, lent: &Lent, case: Case) -> bool
+    ensures { IsTrue result ↔ IsValue lent.now.kinds lent.now.numbers lent.now.texts case.entry.wrong case.entry.answer.now read }
+{
     match read {
         Ok(reach) => {
-            packs::is_pack(answer, reach)
-                & packs::hold(
-                    little::first_part(kinds, reach.nodes),
-                    little::first_part(numbers, reach.nodes),
-                    little::first_part(texts, reach.texts),
-                    little::rest_of(answer, 1),
-                    reach,
-                    0,
-                )
+            packs::is_pack(case.answer, reach)
+                & packs::hold(lent.front(reach), case, case.text(), reach)
         }
-        Err(e) => answers::is(answer, 2, 0, answers::number(e)),
+        Err(e) => case.refuses(e),
     }
 }
 
-pub fn agrees(input: &[u8], answer: &[u8]) -> bool {
-    let mut kinds = [77u8; packs::KINDS];
-    let mut numbers = [77u64; packs::NUMBERS];
-    let mut texts = [77u8; packs::TEXTS];
-    let mut links = [77u16; Log::LINKS];
-    if input.len() > Log::LINE_LIMIT {
+pub fn agrees(case: Case) -> bool {
+    if case.input.len() > Log::LINE_LIMIT {
         return false;
     }
+    let mut lent = Lent::new();
+    let mut links = [77u16; Log::LINKS];
     let mut tables = Tables {
-        kinds: &mut kinds,
-        numbers: &mut numbers,
-        texts: &mut texts,
+        kinds: &mut lent.kinds,
+        numbers: &mut lent.numbers,
+        texts: &mut lent.texts,
         reach: Reach::default(),
     };
-    let read = values::parse_value(&mut tables, &mut links, input);
+    let read = values::parse_value(&mut tables, &mut links, case.input);
     let reach = tables.reach;
-    same_value(read.map(|_| reach), &kinds, &numbers, &texts, answer)
+    same_value(read.map(|_| reach), &lent, case)
 }

@@ -1,30 +1,35 @@
--- `chars::blocks_end` meets its contract. The loop's invariant: the blocks still to come are those behind i, and each byte passed is as the test
--- promises.
+-- `chars::blocks_end` meets its contract: each byte passed stands in a block that passes.
 -- Assumes nothing.
-use Rattle.std.proofs.Common.{◌≡◌, true, ◌++◌, ◌+◌, length, drop, sym, ◌∙◌, arith, rules}
-use Rattle.std.specs.Slice.Iter.{chunks_exact_rest}
+use Rattle.std.proofs.Common.{◌≡◌, ◌-◌, ◌/◌, length, length-drop, ap, ap₂, ◌∙◌, arith, rules}
+use Rattle.std.specs.Slice.Iter.{chunks_exact_rest, chunks_exact_size}
 use Rattle.buffers.proofs.Appending.{take_rest}
-use Rattle.buffers.proofs.Parts.{behind_block, block_inside, block_holds}
-use Rattle.chars.proofs.Runs.{all_join}
+use Rattle.chars.proofs.Blocks.{some_item, read_item, in_blocks}
 use Rattle.chars.proofs.blocks_end.Goals as goal
 
-pub loop-block-init : goal.loop-block-init
-loop-block-init g c = (omega arith, omega arith, search rules ∙ take_rest c.args.at c.args.s.now, search rules, λ p h i l m. absurd (omega arith))
+pub returns-in-Some-clause-passed : goal.returns-in-Some-clause-passed
+returns-in-Some-clause-passed g c =
+    λ p h.
+    let s = c.args.s in
+    let t = c.in-Some.ensures.runs in
+    let q = t.0 in
+    let e = c.chunks_exact.ensures.runs q q.seen (search rules) in
+    let w = t.2.1 (search rules) in
+    in_blocks p s.now (chunks_exact_rest q.from) c.args.at g.row.N (chunks_exact_size q.from) c.in-Some.n q.at c.requires.nonempty
+    (ap chunks_exact_size t.1 ∙ c.chunks_exact.ensures.size) (ap chunks_exact_rest t.1 ∙ c.chunks_exact.ensures.rest ∙ take_rest c.args.at s.now)
+    e.2
+    (λ k l. some_item (q.at k) (λ x u. h x.now (search rules)) (w.1 k l))
 
-pub loop-block-preserved : goal.loop-block-preserved
-loop-block-preserved g c =
-    let s = c.args.s.now in
-    let i = c.loop-block.i in
-    let v = c.loop-block.invariant in
-    let n = g.row.N in
-    let t = c.in-Some.ensures.steps in
-    let x = c.in-Some.block.now in
-    let r = chunks_exact_rest c.next.new.self in
-    let cut : drop i s ≡ x ++ r = sym v.2 ∙ t.1.0 in
-    let long : length x ≡ n = t.1.1 ∙ v.3 in (
-      omega arith,
-      block_inside s x r i n cut long v.1,
-      behind_block s x r i n cut long,
-      t.0 ∙ v.3,
-      λ p h. all_join p s c.args.at i (i + n) (v.4 p h) (block_holds s x r i n cut long (λ b. p b ≡ true) (λ k l. h x (search rules) k (omega arith) l)),
-    )
+pub returns-clause-passed : goal.returns-clause-passed
+returns-clause-passed g c =
+    λ p h.
+    let s = c.args.s in
+    let t = c.in-None.ensures.runs in
+    let q = t.0 in
+    let e = c.chunks_exact.ensures.runs q q.seen (search rules) in
+    let w = t.2.1 (search rules) in
+    let sized = ap chunks_exact_size t.1 ∙ c.chunks_exact.ensures.size in
+    let behind = ap chunks_exact_rest t.1 ∙ c.chunks_exact.ensures.rest ∙ take_rest c.args.at s.now in
+    let n : q.len ≡ (length s.now - c.args.at) / g.row.N = e.1 t.2.0 ∙ ap₂ ◌/◌ (ap length behind ∙ length-drop c.args.at s.now) sized in
+    in_blocks p s.now (chunks_exact_rest q.from) c.args.at g.row.N (chunks_exact_size q.from) ((length s.now - c.args.at) / g.row.N) q.at c.requires.nonempty
+    sized behind e.2
+    (λ k l. read_item (q.at k) _ (q.reads k s (omega (arith, n))) (λ x u. h x.now (search rules)) (w k))
