@@ -97,7 +97,7 @@ fn append_two<S: Sink>(sink: &mut S, a: u8, b: u8)
     sink.push(b);
 }
 
-// Puts the character c. No `match`: the longer forms share their last bytes.
+// Puts the character c. No `match`: the longer forms share their last bytes. `encode_utf8` takes a `char`, and a buffer of its own to copy from.
 #[tactic(auto, using(crate::proofs::Writing::encodings))]
 pub fn append_char<S: Sink>(sink: &mut S, c: u32)
     requires { (c < 0x110000) × S.room sink.old (length (encode c)) }
@@ -217,7 +217,8 @@ pub fn is_utf8(s: &[u8]) -> bool
     true
 }
 
-// Is the code point c White_Space? ASCII is decided first.
+// Is the code point c White_Space? ASCII is decided first. Not by `char::is_whitespace`, for which c would be made a `char`, and whose contract
+// is over a list of the library's, where ours is over the one of the documents.
 #[tactic(auto, using(crate::proofs::Ending::not_wide), unfolding(crate::specs::White::white))]
 fn is_white(c: u32) -> bool
     ensures { result ≡ white c }
@@ -247,7 +248,8 @@ fn is_past_space(b: Option<&u8>) -> bool
     matches!(b, Some(b'!'..=0x7f))
 }
 
-// How many bytes the White_Space character takes that the text begins with. A space, and what comes behind it in ASCII, is decided in place.
+// How many bytes the White_Space character takes that the text begins with. A space, and what comes behind it in ASCII, is decided in place. Beside
+// `white_end`, which says why.
 #[tactic(auto, using(crate::proofs::Ending::white_empty, crate::proofs::Spacing::begins_at, crate::proofs::Spacing::begins_space))]
 pub fn white_width(s: &[u8]) -> Option<usize>
     ensures value { MatchOption result (white_at s.now ≡ 0) (λ n. (0 < n) × (white_at s.now ≡ n)) }
@@ -273,7 +275,8 @@ fn wide_width(s: &[u8]) -> Option<usize>
     }
 }
 
-// How many bytes the White_Space character takes that the text ends in. A space, and what comes behind it in ASCII, is decided in place.
+// How many bytes the White_Space character takes that the text ends in. A space, and what comes behind it in ASCII, is decided in place. It
+// shares three arms with `white_width`; a function for both would take what looks at an end, and what decodes there, as closures.
 #[tactic(auto, using(crate::proofs::Spacing::ends_at, crate::proofs::Spacing::ends_space))]
 fn white_end(s: &[u8]) -> Option<usize>
     ensures { MatchOption result (EndsIn s.now 0) (λ n. (0 < n) × EndsIn s.now n) }

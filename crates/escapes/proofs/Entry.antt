@@ -1,7 +1,7 @@
 -- The entry point's answer, test by test, and the output that goes with it.
 -- Assumes nothing.
 use mathlib.Core.Path.{◌≡◌, sym, ap, ◌∙◌}
-use mathlib.Core.Bool.{true}
+use mathlib.Core.Bool.{true, false}
 use mathlib.Core.List.{List, ◌++◌}
 use Prim.Native.Nat.{ℕ, ◌≤◌, ◌<◌}
 use native.Mathlib.Omega.{arith}
@@ -11,7 +11,7 @@ use borrow.Author.Tests.{le-leb, lt-leb}
 use Rattle.buffers.specs.Wrote.{Wrote}
 use Rattle.buffers.proofs.Appending.{wrote_all}
 use Rattle.format.specs.Limits.{text_limit}
-use Rattle.format.specs.Refusals.{output_too_short}
+use Rattle.format.specs.Refusals.{text_too_long, output_too_short}
 use Rattle.chars.specs.Checked.{text_checked}
 use Rattle.chars.proofs.Checking.{stopped}
 use Rattle.chars.specs.Utf8.{utf8}
@@ -33,6 +33,10 @@ module _ (text output : List ℕ) where
   pub decode_stopped : {k : Refusal} → Err k ≡ text_checked text → DecodeAnswers text output (Err k) output
   unfolding decoded
   decode_stopped {k} h = refused k (sym (stopped text Err _ h))
+
+  pub decode_too_long : leb (length text) text_limit ≡ false → DecodeAnswers text output (Err text_too_long) output
+  unfolding decoded
+  decode_too_long l = refused text_too_long (rw l)
 
   module _ (l : leb (length text) text_limit ≡ true) where
     module _ (u : utf8 text ≡ true) (n : ℕ) (e : n ≡ length (unescape text)) where

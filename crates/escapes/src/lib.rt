@@ -31,7 +31,7 @@ fn hex_at(s: &[u8], i: usize) -> Option<u32>
 }
 
 // Past the place `at`, \u{..} names nothing: it stands for itself up to its }, or to the end. The u is at `from`. Not by `find_from`, whose
-// length for none would have to be told from a place again.
+// length for none would have to be told from a place again, nor by `position`, whose answer counts from `at`.
 fn stand(s: &[u8], from: usize, at: usize) -> Escape
     requires { (from ≤ at) × (at ≤ length s.now) }
     ensures { result ≡ braces unnamed (at - from) (drop at s.now) }

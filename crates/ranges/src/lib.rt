@@ -18,8 +18,6 @@ pub enum Look {
     Number,
     // Its own bytes.
     Itself,
-    // Only the tables tell.
-    Unknown,
 }
 
 // Code points of common scripts that are in neither table: a text of these alone needs no table on the stack.
@@ -35,7 +33,8 @@ pub struct HiddenTables<'a> {
     pub firsts: &'a [u32],
 }
 
-// The tables that `look_of` asks: `common` is that of here, and so are the hidden ones, where they are lent.
+// The tables that `look_of` asks: `common` is that of here, and so are the hidden ones, where they are lent. No `static` ones, which nobody would
+// lend: `lent_both` (`proofs/Looks`), a theorem that has to stand, is of tables that are lent.
 #[derive(Clone, Copy)]
 pub struct EscapeTables<'a> {
     pub common: &'a [u32],
@@ -75,27 +74,23 @@ pub fn first_only() -> [u32; 762]
     tables::FIRST_ONLY
 }
 
-// How a character beyond printable ASCII is written by the tables; Unknown only where none are lent.
-pub fn look_of(tables: &EscapeTables, c: u32, first: bool) -> Look
+// How a character beyond printable ASCII is written by the tables; `None` only where the hidden ones are not lent.
+pub fn look_of(tables: &EscapeTables, c: u32, first: bool) -> Option<Look>
     requires { TablesLent tables.now × (127 ≤ c) }
     ensures { Settled tables.now.hidden first c result }
 {
     if c < 161 {
-        return Look::Number;
+        return Some(Look::Number);
     }
     if in_ranges(tables.common, c) {
-        return Look::Itself;
+        return Some(Look::Itself);
     }
-    let Some(hidden) = tables.hidden else {
-        return Look::Unknown;
-    };
+    let hidden = tables.hidden?;
     if in_ranges(hidden.anywhere, c) {
-        return Look::Number;
+        return Some(Look::Number);
     }
-    if first {
-        if in_ranges(hidden.firsts, c) {
-            return Look::Number;
-        }
+    if first && in_ranges(hidden.firsts, c) {
+        return Some(Look::Number);
     }
-    Look::Itself
+    Some(Look::Itself)
 }

@@ -15,15 +15,17 @@ unwritten look at =
     if nat_lt at look.used then (if look.wrong == look.table then 1 else 0) else (if look.wrong == look.table + 4 then 78 else 77)
 
 -- the table holds these entries and nothing else
-abbrev pub HoldsBytes : List ℕ → List ℕ → Look → Type 0
-HoldsBytes s text look = (length text ≤ length s) × EachIndex s (λ i. slice_index s i ≡ slice_index_or text i (unwritten look i))
+pub record HoldsBytes (s text : List ℕ) (look : Look) : Type 0 where
+  pub room : length text ≤ length s
+  pub entries : EachIndex s (λ i. slice_index s i ≡ slice_index_or text i (unwritten look i))
 
 -- what an entry of a table of numbers is to be: the text has those that were written, in eight bytes each
-abbrev pub number_there : List ℕ → Look → ℕ → ℕ
+unfoldable pub number_there : List ℕ → Look → ℕ → ℕ
 number_there text look i = if nat_lt i (length text / 8) then from_le_bytes w64 (drop (i * 8) text) else unwritten look i
 
-abbrev pub HoldsNumbers : List ℕ → List ℕ → Look → Type 0
-HoldsNumbers s text look = (length text / 8 ≤ length s) × EachIndex s (λ i. slice_index s i ≡ number_there text look i)
+pub record HoldsNumbers (s text : List ℕ) (look : Look) : Type 0 where
+  pub room : length text / 8 ≤ length s
+  pub entries : EachIndex s (λ i. slice_index s i ≡ number_there text look i)
 
 abbrev pub look_at : ℕ → ℕ → ℕ → Look
 look_at table used wrong = record { table = table; used = used; wrong = wrong }

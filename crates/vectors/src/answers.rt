@@ -1,10 +1,9 @@
 // What the oracle answered beside what our functions gave and wrote.
-ghost use Rattle.std.specs.Prelude.{◌≡◌, ◌↔◌, ◌*◌, ◌/◌, ◌≤◌, ◌<◌, IsTrue, MatchOption, length, drop, slice_index};
+ghost use Rattle.std.specs.Prelude.{◌≡◌, ◌↔◌, IsTrue, slice_index_or};
 ghost use Rattle.std.specs.Result.{result_map_both};
-ghost use Rattle.std.specs.Int.{w64, from_le_bytes};
 ghost use Rattle.format.specs.Refusals.{number};
 ghost use Rattle.vectors.specs.Answers.{IsAnswer, IsWritten};
-ghost use Rattle.vectors.specs.Looks.{HoldsBytes, HoldsNumbers};
+ghost use Rattle.vectors.specs.Looks.{unwritten as unwritten_at, number_there as number_there_of, HoldsBytes, HoldsNumbers};
 
 use crate::control::Look;
 use crate::little;
@@ -43,21 +42,23 @@ pub fn is_written(written: Result<usize, Refusal>, size: usize, expected: Expect
     }
 }
 
-// The byte of a text.
-fn byte_at(text: &[u8], at: usize) -> Option<u64>
-    ensures { MatchOption result (length text.now ≤ at) (λ b. (at < length text.now) × (b ≡ slice_index text.now at)) }
+// What an entry of a table of bytes is to be: the text's byte, or what stands where nothing was written.
+fn byte_there(text: &[u8], look: Look, at: usize) -> u64
+    ensures { result ≡ slice_index_or text.now at (unwritten_at look at) }
 {
-    text.get(at).map(|&b| u64::from(b))
+    let unwritten = look.unwritten(at);
+    text.get(at).map_or(unwritten, |&b| u64::from(b))
 }
 
-// The number that stands in eight bytes of a text.
-fn number_at(text: &[u8], at: usize) -> Option<u64>
-    ensures { MatchOption result (length text.now / 8 ≤ at) (λ n. (at < length text.now / 8) × (n ≡ from_le_bytes w64 (drop (at * 8) text.now))) }
+// What an entry of a table of numbers is to be: that of eight bytes of the text, or what stands where nothing was written.
+#[tactic(auto, unfolding(crate::specs::Looks::number_there))]
+fn number_there(text: &[u8], look: Look, at: usize) -> u64
+    ensures { result ≡ number_there_of text.now look at }
 {
     if at < text.len() / 8 {
-        return Some(little::eight(text, at * 8));
+        return little::eight(text, at * 8);
     }
-    None
+    look.unwritten(at)
 }
 
 // Does a table of bytes hold this text and nothing else?
@@ -67,8 +68,7 @@ pub fn bytes_hold(s: &[u8], text: &[u8], look: Look) -> bool
     let mut same = text.len() <= s.len();
     // no `all`: with it the program takes a fifth longer
     for (i, &b) in s.iter().enumerate() {
-        let unwritten = look.unwritten(i);
-        same = same & (u64::from(b) == byte_at(text, i).unwrap_or(unwritten));
+        same = same & (u64::from(b) == byte_there(text, look, i));
     }
     same
 }
@@ -81,8 +81,7 @@ pub fn numbers_hold(s: &[u64], text: &[u8], look: Look) -> bool
     let mut same = text.len() / 8 <= s.len();
     // no `all`, as above
     for (i, &number) in s.iter().enumerate() {
-        let unwritten = look.unwritten(i);
-        same = same & (number == number_at(text, i).unwrap_or(unwritten));
+        same = same & (number == number_there(text, look, i));
     }
     same
 }

@@ -7,7 +7,7 @@ use crate::packs::{Lent, TableLengths};
 use crate::{answers, little};
 use format::Refusal;
 
-// 0 and the refusal, or 1 and the listing, or 2 for a blank line.
+// 0 and the refusal, or 1 and the listing, or 2 for a blank line. Beside `same_line`, which says why.
 fn same_listed(listed: Result<Option<usize>, Refusal>, case: Case) -> bool
     ensures { IsTrue result ↔ IsListed case.entry.answer.now listed }
 {

@@ -20,6 +20,7 @@ fn first_bytes<const N: usize>(s: &[u8]) -> [u8; N]
     bytes
 }
 
+// Three functions for three types: one would take the type's `from_le_bytes` from a trait of our own, with these three as its methods.
 pub fn two(s: &[u8], at: usize) -> u64
     ensures value { result ≡ from_le_bytes w16 (drop at s.now) }
     ensures bound { result < 2 ^ 16 }

@@ -115,7 +115,7 @@ impl Lent {
     }
 
     // Are the tables as a call with the case's answer leaves them: this pack, zeros as far as they are used, and behind that what was lent? An
-    // empty text is a pack of no nodes.
+    // empty text is a pack of no nodes, and no `Option`: what is compared with it is empty then.
     pub fn left_by(&self, case: Case, pack: &[u8]) -> bool
         ensures { IsTrue result ↔ HoldsPack self.now.kinds self.now.numbers self.now.texts pack.now (used_of case.entry.answer.now) case.entry.wrong }
     {
