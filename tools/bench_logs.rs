@@ -245,12 +245,17 @@ fn row(
     );
 }
 
+/// How long the output of a listing is.
+fn room() -> usize {
+    std::env::var("ROOM").map_or(65_536, |room| room.parse().expect("ROOM is a number"))
+}
+
 /// The rows that contain the word.
 pub fn rows(word: &str) {
     println!("\n| what | log | lines | bytes to a line | Rust ns to a line | ours | ratio |");
     println!("|---|---|---:|---:|---:|---:|---:|");
     let mut tables = Tables::new();
-    let mut out = vec![0u8; 65_536];
+    let mut out = vec![0u8; room()];
     for kind in &KINDS {
         let log = log_of(kind, 65_536);
         if format!("judge log {}", kind.name).contains(word) {
@@ -290,7 +295,7 @@ pub fn once(name: &str, side: &str) {
         log = log.split_inclusive('\n').take(256).collect();
     }
     let mut tables = Tables::new();
-    let mut out = vec![0u8; 65_536];
+    let mut out = vec![0u8; room()];
     black_box(match side {
         "rust_judge" => rust_judge(&log),
         "rust_list" => rust_list(&log),

@@ -36,9 +36,9 @@ enum lulzhemor_front {
     LULZHEMOR_FRONT_NODES = 0, /* how many nodes the pack has */
     LULZHEMOR_FRONT_TEXTS = 1  /* how many text bytes */
 };
-/* A listing's output of so many bytes is never refused with 5: no event lists in more, by the law `line-short` in
- * crates/listing/proofs/Longest.antt. */
-#define LULZHEMOR_LISTING_ROOM 245867
+/* A listing's output of so many bytes is never refused with 5. No event lists in more than seven bytes for each byte of its trimmed line,
+ * and one, by the law `listing_by_bytes` in crates/listing/proofs/Longest.antt. */
+#define LULZHEMOR_LISTING_ROOM 28673
 
 /* ---- Answers ----
  * One number each. A success is below LULZHEMOR_REFUSED, a refusal is LULZHEMOR_REFUSED and its number, from lulzhemor_judge and
@@ -185,7 +185,16 @@ uint64_t lulzhemor_merge(uint8_t *kinds, size_t kinds_len, uint64_t *numbers, si
 uint64_t lulzhemor_read_line(uint8_t *kinds, size_t kinds_len, uint64_t *numbers, size_t numbers_len, uint8_t *texts, size_t texts_len,
                              uint64_t sizes[LULZHEMOR_FRONT], const uint8_t *line, size_t line_len);
 
-/* Writes the night listing of one line's event, which has this number: its bytes, LULZHEMOR_BLANK, or a refusal. */
+/* Writes the night listing of one line's event, which has this number: its bytes, LULZHEMOR_BLANK, or a refusal. As event 1 the line
+ *     @7 entities(Cell::"K'7": {}) Dig::"go"::ask(cell: Cell::"K'7")
+ * lists as
+ *     event 1 at 7
+ *     name "Dig"
+ *     action "go"
+ *     kind "ask"
+ *     logged {"cell":e"Cell" "K\'7"}
+ *     context {}
+ *     entity "Cell::\"K\\\'7\"" {} [] */
 uint64_t lulzhemor_list_line(uint8_t *kinds, size_t kinds_len, uint64_t *numbers, size_t numbers_len, uint8_t *texts, size_t texts_len,
                              uint8_t *out, size_t out_len, const uint8_t *line, size_t line_len, uint64_t number);
 

@@ -37,7 +37,7 @@ static const char LISTING[] =
     "kind \"request\"\n"
     "logged {\"cell\":e\"Cell\" \"K\\'7\",\"depth\":d\"12.50\",\"left\":i-2}\n"
     "context {}\n"
-    "entity Cell::\"K\\'7\" {\"dug\":true} []\n";
+    "entity \"Cell::\\\"K\\\\\\'7\\\"\" {\"dug\":true} []\n";
 
 static void fill(void) {
     memset(kinds, 77, sizeof kinds);
@@ -228,7 +228,7 @@ static void listing(void) {
     CHECK(r == LULZHEMOR_REFUSED + LULZHEMOR_TABLE_TOO_SHORT && untouched() && wrote(""));
 }
 
-/* The longest line, whose every character lists as six. */
+/* The longest lines: each character of one lists as six bytes, and of one as seven, since it stands in an id, which is escaped in its key. */
 static void long_listing(void) {
     static uint8_t line[LULZHEMOR_LINE_LIMIT], expected[8 * LULZHEMOR_LINE_LIMIT], room[LULZHEMOR_LISTING_ROOM];
     size_t wide = sizeof line - strlen("@1 ::\"\"::k(:)");
@@ -236,6 +236,18 @@ static void long_listing(void) {
     size_t n = widened(expected, "event 18446744073709551615 at 1\nname \"\"\naction \"\"\nkind \"k\"\nlogged {\"", "\\u{7f}", wide,
                        "\":s\"\"}\ncontext {}\n");
     CHECK(lulzhemor_list_line(TABLES, room, sizeof room, line, sizeof line, UINT64_MAX) == n && memcmp(room, expected, n) == 0);
+    wide = sizeof line - strlen("@0 entities(::\"\":{})::\"\"::k()");
+    CHECK(widened(line, "@0 entities(::\"", "\x7f", wide, "\":{})::\"\"::k()") == sizeof line);
+    n = widened(expected, "event 18446744073709551615 at 0\nname \"\"\naction \"\"\nkind \"k\"\nlogged {}\ncontext {}\nentity \"::\\\"",
+                "\\\\u{7f}", wide, "\\\"\" {} []\n");
+    CHECK(n == 28571);
+    CHECK(lulzhemor_list_line(TABLES, room, sizeof room, line, sizeof line, UINT64_MAX) == n && memcmp(room, expected, n) == 0);
+    memset(room, 77, sizeof room);
+    uint64_t r = lulzhemor_list_line(TABLES, room, n - 1, line, sizeof line, UINT64_MAX);
+    CHECK(r == LULZHEMOR_REFUSED + LULZHEMOR_OUTPUT_TOO_SHORT && is_old(room, sizeof room));
+    /* Twelve bytes list in seven for each, and one, as LULZHEMOR_LISTING_ROOM has it of the longest line. */
+    CHECK(lulzhemor_list_line(TABLES, room, sizeof room, BYTES("@0 ::\"\"::\x7f()"), UINT64_MAX) == 7 * 12 + 1);
+    CHECK(LULZHEMOR_LISTING_ROOM == 7 * LULZHEMOR_LINE_LIMIT + 1);
 }
 
 static bool is_refusal(unsigned n) { return (n >= 1 && n <= 5) || (n >= 10 && n <= 35) || (n >= 45 && n <= 47); }

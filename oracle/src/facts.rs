@@ -88,10 +88,10 @@ action "release"
 kind "request"
 logged {"cell":e"Cell" "K\'7","depth":d"12.50"}
 context {}
-entity Cell::"K\'7" {"dug":true} []
+entity "Cell::\"K\\\'7\"" {"dug":true} []
 events 1
 "#;
-    facts.holds("01's worked example", answers::night_listing(log.as_bytes()), listing);
+    facts.holds("01's worked example, its line 8 as 02 has it", answers::night_listing(log.as_bytes()), listing);
 }
 
 /// The twelve of 01's proof set, in its order.
@@ -106,7 +106,7 @@ fn proof_set(facts: &mut Facts) {
     facts.refused(")(", 18);
     for id in ["K'7", r"K\'7"] {
         let line = format!("@0 entities(Cell::\"{id}\":{{}})::\"\"::k()");
-        facts.holds(&line, part(&line, "entity "), r#"Cell::"K\'7" {} []"#);
+        facts.holds(&line, part(&line, "entity "), r#""Cell::\"K\\\'7\"" {} []"#);
     }
     facts.value(r#""x::""#, r#"s"x::""#);
     facts.value("9223372036854775808", r#"s"9223372036854775808""#);
@@ -141,7 +141,9 @@ fn values(facts: &mut Facts) {
     facts.value("\"", r#"s"\"""#);
     facts.value(r"\n", r#"s"\\n""#);
     facts.value("[b]c]", r#"[s"b]c"]"#);
-    facts.value(r#""x::"y""#, r#"e""x" "y""#);
+    facts.value(r#""x::"y""#, r#"e"\"x" "y""#);
+    facts.value(r#"A" "b",e"C::"d""#, r#"e"A\" \"b\",e\"C" "d""#);
+    facts.value(r#"\n::"b""#, r#"e"\\n" "b""#);
     facts.value("-0", "i0");
     for decimal in ["1.", "1.e1", "+.5"] {
         facts.value(decimal, &format!("d\"{decimal}\""));
@@ -183,6 +185,9 @@ fn entries(facts: &mut Facts) {
     for (envelope, number) in envelopes {
         facts.refused(&format!("{envelope}{head}"), number);
     }
+    // The first of two, by their stored keys.
+    let line = r#"@0 entities(A::"x":{},'::"x":{})::""::k()"#;
+    facts.holds(line, part(line, "entity "), r#""\'::\"x\"" {} []"#);
 }
 
 fn lines_and_heads(facts: &mut Facts) {
@@ -256,6 +261,11 @@ fn sizes(facts: &mut Facts) {
     facts.holds("65,536 bytes with U+FEFF", judged(&marked(TEXT - 3)), "events 0\n");
     facts.holds("65,537 bytes with U+FEFF", judged(&marked(TEXT - 2)), "refused 2 line 0\n");
     facts.holds("bad UTF-8", answers::judge(b"x\n\xff"), "refused 3 line 0\n");
+    let listed = |line: &str| answers::line(line.as_bytes(), u64::MAX).len().to_string();
+    facts.holds("the listing of 12 bytes", listed("@0 ::\"\"::\u{7f}()"), "85");
+    let id = "\u{7f}".repeat(LINE - 29);
+    let line = format!("@0 entities(::\"{id}\":{{}})::\"\"::k()");
+    facts.holds("the listing of 4,096 bytes", listed(&line), "28571");
 }
 
 fn decodings_and_numbers(facts: &mut Facts) {

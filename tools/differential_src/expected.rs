@@ -38,9 +38,11 @@ impl<'a> Oracle<'a> {
                 let Pack { kinds, numbers, texts } = Pack::of_event(line, event);
                 Answer::Pack(Tables { kinds, numbers, texts })
             }),
-            Ask::List(number) => {
-                self.line(text, |_, event| Answer::Text(listing::event(number, event).into_bytes()))
-            }
+            Ask::List(number) => self.line(text, |line, event| {
+                let listed = listing::event(number, event);
+                assert!(listed.len() <= limits::listing(line), "a listing is too long: {line}");
+                Answer::Text(listed.into_bytes())
+            }),
             Ask::Cut => {
                 let places = answers::cut_places(text)
                     .map(|places| places.into_iter().map(|at| at as u64).collect());

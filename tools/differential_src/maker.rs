@@ -536,38 +536,36 @@ impl Maker {
         }
     }
 
-    /// Many short texts, each with a character at an end of a range in front, some with one more.
+    /// Many short texts, each with a character at an end of a range in front, some with one more. Of types each has an id of its own, since
+    /// what is read is trimmed.
     fn characters(&mut self) -> String {
-        let mut items = Vec::new();
+        let mut texts = Vec::new();
         for _ in 0..40 + self.random.below(160) {
             let mut text = self.random.pick(range_ends()).to_string();
             if self.random.once_in(3) {
                 text.push(*self.random.pick(range_ends()));
             }
-            let ty = if self.random.once_in(3) { "T::" } else { "" };
-            items.push(format!("{ty}\"{text}\""));
+            texts.push(text);
         }
-        match self.random.below(3) {
-            0 => items
-                .into_iter()
-                .map(|item| {
-                    format!(
-                        "@0 {}::k()\n",
-                        item.replacen("T::\"", "\"", 1).replacen('"', "::\"", 1)
-                    )
-                })
-                .take(20)
-                .collect(),
-            1 => {
-                let entry = |item: String| {
-                    format!("{}:{{}}", item.replacen("T::\"", "\"", 1).replacen('"', "::\"", 1))
+        let of_types = || texts.iter().enumerate().map(|(n, text)| format!("{text}::\"{n}\""));
+        let entries = |mut keys: Vec<String>| {
+            keys.sort();
+            keys.dedup();
+            format!("@0 entities({}:{{}})::\"\"::k()", keys.join(":{},"))
+        };
+        let values = |items: Vec<String>| format!("@0 ::\"\"::k(v:[{}])", items.join(","));
+        match self.random.below(5) {
+            0 => texts.iter().take(20).map(|text| format!("@0 ::\"{text}\"::k()\n")).collect(),
+            1 => entries(texts.iter().map(|text| format!("::\"{text}\"")).collect()),
+            2 => entries(of_types().collect()),
+            3 => values(of_types().collect()),
+            _ => {
+                let mut item = |text: &String| {
+                    let ty = if self.random.once_in(3) { "T::" } else { "" };
+                    format!("{ty}\"{text}\"")
                 };
-                let mut entries: Vec<String> = items.into_iter().map(entry).collect();
-                entries.sort();
-                entries.dedup();
-                format!("@0 entities({})::\"\"::k()", entries.join(","))
+                values(texts.iter().map(&mut item).collect())
             }
-            _ => format!("@0 ::\"\"::k(v:[{}])", items.join(",")),
         }
     }
 
@@ -594,6 +592,7 @@ impl Maker {
             ("@0 ::\"\"::k(", ")"),
             ("", ""),
             ("@0 entities(T::\"", "\":{})::\"\"::k()"),
+            ("@0 entities(", "::\"\":{})::\"\"::k()"),
         ];
         let (front, behind) = *self.random.pick(&forms);
         let fill = self.filling(length - front.len() - behind.len());

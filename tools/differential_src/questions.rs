@@ -21,8 +21,11 @@ fn lent(random: &mut Random, text: &[u8]) -> Lent {
     }
 }
 
+/// An output of so many bytes more than a short line's listing has is longer than any listing of that line.
+const AMPLE: i32 = 300;
+
 fn slack(random: &mut Random) -> i32 {
-    *random.pick(&[0, 0, 0, 9, 9, 1, -1, -1, NO_ROOM])
+    *random.pick(&[0, 0, 0, 9, AMPLE, 1, -1, -1, NO_ROOM])
 }
 
 pub fn question<'a>(random: &mut Random, ask: Ask, text: &'a [u8]) -> Question<'a> {

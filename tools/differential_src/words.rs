@@ -23,9 +23,9 @@ pub const CALM_NAMES: [&str; 16] = [
     "a", "\"b\"", "\\x63", "é", "dug", "\"a:b\"", "B", "\"\"", "ab", "\u{301}", "\"'\"", "😀", "\"\\u{64}\"", "(a:b)", "a b", "\"\u{7f}\"",
 ];
 
-pub const TYPES: [&str; 26] = [
+pub const TYPES: [&str; 31] = [
     "User", "Cell", "Cell", "T", "T", "T", "Ns::Type", "A::B::C", "", "", "é", "x y", ":", "::", "a::\"b\"", "T\\", "\\u{41}",
-    "\"T", "\"x\"", "T\u{7f}", "T'", "\\x41", "[T", "(T)", "null", "1",
+    "\"T", "\"x\"", "T\u{7f}", "T'", "\\x41", "[T", "(T)", "null", "1", "'", "\u{301}x", "x\u{301}", "\u{202e}x", "x\u{a0}y",
 ];
 
 /// One id spelled in several ways, so that keys meet.

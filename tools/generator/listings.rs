@@ -6,6 +6,7 @@ use crate::grammar::Grammar;
 use crate::hand::Hand;
 use crate::lines::{HEAD, filled, random_line, sizes};
 use crate::merges;
+use crate::traps;
 use oracle::limits::{LINE, TEXT};
 use oracle::{limits, listing};
 
@@ -22,6 +23,14 @@ pub fn make(cases: &mut Cases, hand: &Hand) {
     let lists = hand.list("listings").iter().chain(hand.list("lines"));
     for (line, number) in lists.zip(NUMBERS.into_iter().cycle()) {
         three_outputs(cases, number, line);
+    }
+    // With the largest number each fills its output most. An output that no listing of the line could
+    // exceed, and one that is a byte shorter: there the product counts first.
+    for line in traps::lines() {
+        three_outputs(cases, u64::MAX, line.as_bytes());
+        for room in [limits::listing(&line) - 1, limits::listing(&line)] {
+            add(cases, 1, u64::MAX, room, line.as_bytes());
+        }
     }
     for (line, number) in sizes().iter().chain(&sorted()).zip(NUMBERS.into_iter().cycle()) {
         three_outputs(cases, number, line.as_bytes());
@@ -42,8 +51,9 @@ pub fn make(cases: &mut Cases, hand: &Hand) {
 fn add(cases: &mut Cases, op: u8, number: u64, room: usize, line: &[u8]) {
     let input = input(number, room, line);
     match limits::line(line) {
-        Ok(Some((_, event))) => {
+        Ok(Some((trimmed, event))) => {
             let listed = listing::event(number, &event);
+            assert!(listed.len() <= limits::listing(trimmed), "a listing is too long: {trimmed}");
             if listed.len() > room {
                 let refusal = OUTPUT_TOO_SHORT;
                 return cases.refused(op, &input, refusal, &[0, refusal]);

@@ -16,6 +16,7 @@ mod nights;
 mod numbers;
 mod pieces;
 mod random;
+mod traps;
 mod values;
 
 use cases::Cases;

@@ -3,6 +3,7 @@
 use crate::cases::Cases;
 use crate::grammar::Grammar;
 use crate::hand::Hand;
+use crate::traps;
 use oracle::answers;
 
 pub fn make(cases: &mut Cases, hand: &Hand) {
@@ -10,6 +11,7 @@ pub fn make(cases: &mut Cases, hand: &Hand) {
     for line in hand.list("lines").iter().chain(hand.list("listings")) {
         add(cases, &[b"\xef\xbb\xbf@0 ::\"\"::k()\n", &line[..]].concat());
     }
+    add(cases, traps::lines().join("\n").as_bytes());
     let mut grammar = Grammar::new(9);
     for _ in 0..150 {
         let count = grammar.random.below(4);

@@ -38,16 +38,17 @@ pub fn log_of(size: usize) -> Vec<u8> {
     log
 }
 
-/// A line of so many bytes whose one text has nothing but characters that print as six bytes each.
+/// A line of so many bytes whose one id has nothing but characters that print as seven bytes each: they are escaped in the stored key, and
+/// the key is where it prints.
 pub fn widest(size: usize) -> Vec<u8> {
-    let (head, tail) = ("@1 ::\"\"::k(", ":)");
+    let (head, tail) = ("@1 entities(::\"", "\":{})::\"\"::k()");
     let mut line = head.as_bytes().to_vec();
     line.resize(size - tail.len(), 0x7F);
     line.extend_from_slice(tail.as_bytes());
     line
 }
 
-/// A log whose listing is five times as long.
+/// A log whose listing is nearly seven times as long.
 pub fn wide_log() -> Vec<u8> {
     (0..15)
         .flat_map(|_| [widest(LINE), b"\n".to_vec()].concat())

@@ -25,8 +25,9 @@ pub use refusal::{MergeRefusal, Refusal, RefusedLine};
 pub const TEXT_LIMIT: usize = 65_536;
 /// A trimmed line, a body, an id or a type, in bytes: [`Refusal::LINE_TOO_LONG`] above this.
 pub const LINE_LIMIT: usize = 4_096;
-/// An output of so many bytes holds every listing of [`Tables::list_line`], which is proved: [`Refusal::OUTPUT_TOO_SHORT`] is not met.
-pub const LISTING_ROOM: usize = 245_867;
+/// An output of so many bytes holds every listing of [`Tables::list_line`]: [`Refusal::OUTPUT_TOO_SHORT`] is not met. No event lists in more
+/// than seven bytes for each byte of its trimmed line, and one, which is proved.
+pub const LISTING_ROOM: usize = 28_673;
 
 /// Refusal n passes as this number and n; no success is as large.
 const REFUSED: u64 = 1 << 32;
@@ -122,6 +123,21 @@ impl Tables {
     }
 
     /// Writes the night listing of one line's event, which has this number; `None` where the line is blank.
+    ///
+    /// ```
+    /// let line = r#"@7 entities(Cell::"K'7": {}) Dig::"go"::ask(cell: Cell::"K'7")"#;
+    /// let listing = r#"event 1 at 7
+    /// name "Dig"
+    /// action "go"
+    /// kind "ask"
+    /// logged {"cell":e"Cell" "K\'7"}
+    /// context {}
+    /// entity "Cell::\"K\\\'7\"" {} []
+    /// "#;
+    /// let mut out = [0; lulzhemor::LISTING_ROOM];
+    /// assert_eq!(lulzhemor::Tables::new().list_line(&mut out, line.as_bytes(), 1)?, Some(listing));
+    /// # Ok::<(), lulzhemor::Refusal>(())
+    /// ```
     pub fn list_line<'o>(
         &mut self,
         out: &'o mut [u8],

@@ -129,8 +129,15 @@ fn a_log_is_judged_and_its_lines_are_read() {
 fn an_event_is_listed() {
     let mut tables = Tables::new();
     let mut out = [0; 1024];
-    let line = br#"@40 Dig::Action::"release"::request(b: [1, x], a: null)"#;
-    let listing = "event 7 at 40\nname \"Dig\" \"Action\"\naction \"release\"\nkind \"request\"\nlogged {\"a\":null,\"b\":[i1,s\"x\"]}\ncontext {}\n";
+    let line = br#"@40 entities(Cell::"K'7": {dug: true} in [Si'te::"A"]) Dig::Action::"release"::request(b: [1, x], a: null)"#;
+    let listing = r#"event 7 at 40
+name "Dig" "Action"
+action "release"
+kind "request"
+logged {"a":null,"b":[i1,s"x"]}
+context {}
+entity "Cell::\"K\\\'7\"" {"dug":true} [e"Si\'te" "A"]
+"#;
     assert_eq!(tables.list_line(&mut out, line, 7), Ok(Some(listing)));
     assert_eq!(
         tables.list_line(&mut out[..listing.len()], line, 7),
@@ -177,7 +184,18 @@ fn texts_are_cut_decoded_and_spelled() {
     );
 }
 
-/// The longest line, whose every character lists as six.
+/// The listing of a line as the event with the largest number, in an output of so many bytes.
+fn listed(room: usize, line: &str) -> Result<String, Refusal> {
+    let mut out = vec![77; room];
+    let listing = Tables::new().list_line(&mut out, line.as_bytes(), u64::MAX);
+    let listing = listing.map(|listing| listing.expect("an event").to_string());
+    if listing.is_err() {
+        assert!(out.iter().all(|byte| *byte == 77));
+    }
+    listing
+}
+
+/// The longest line, whose every character lists as six bytes.
 #[test]
 fn a_long_listing_has_room() {
     let wide = lulzhemor::LINE_LIMIT - r#"@1 ::""::k(:)"#.len();
@@ -187,9 +205,33 @@ fn a_long_listing_has_room() {
         u64::MAX,
         r"\u{7f}".repeat(wide)
     );
-    let mut out = vec![0; lulzhemor::LISTING_ROOM];
-    let written = Tables::new()
-        .list_line(&mut out, line.as_bytes(), u64::MAX)
-        .map(|listing| listing.map(str::to_string));
-    assert_eq!(written, Ok(Some(listing)));
+    assert_eq!(listed(lulzhemor::LISTING_ROOM, &line), Ok(listing));
+}
+
+/// A character of an id is escaped in the stored key, and the key where it lists: seven bytes.
+#[test]
+fn an_id_is_escaped_twice() {
+    let wide = lulzhemor::LINE_LIMIT - r#"@0 entities(::"":{})::""::k()"#.len();
+    let line = format!(
+        r#"@0 entities(::"{}":{{}})::""::k()"#,
+        "\u{7f}".repeat(wide)
+    );
+    let listing = listed(lulzhemor::LISTING_ROOM, &line).expect("no refusal");
+    let entity = format!(
+        "\nentity \"::\\\"{}\\\"\" {{}} []\n",
+        r"\\u{7f}".repeat(wide)
+    );
+    assert!(listing.ends_with(&entity));
+    assert_eq!(listing.len(), 28_571);
+    assert_eq!(listed(28_571, &line), Ok(listing));
+    assert_eq!(listed(28_570, &line), Err(Refusal::OUTPUT_TOO_SHORT));
+}
+
+/// Seven bytes for each of a line, and one: a line that lists in so many, and the room that is enough for all.
+#[test]
+fn no_listing_is_longer() {
+    let tight = "@0 ::\"\"::\u{7f}()";
+    let listing = listed(lulzhemor::LISTING_ROOM, tight).expect("no refusal");
+    assert_eq!(listing.len(), 7 * tight.len() + 1);
+    assert_eq!(lulzhemor::LISTING_ROOM, 7 * lulzhemor::LINE_LIMIT + 1);
 }

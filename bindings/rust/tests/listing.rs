@@ -28,7 +28,7 @@ fn value(v: Value) -> String {
         Value::Integer(n) => format!("i{n}"),
         Value::Decimal(text) => format!("d{}", quoted(text)),
         Value::String(text) => format!("s{}", quoted(text)),
-        Value::Entity(Entity { ty, id }) => format!("e\"{ty}\" {}", quoted(id)),
+        Value::Entity(Entity { ty, id }) => format!("e{} {}", quoted(ty), quoted(id)),
         Value::Array(items) => array(items),
         Value::Record(fields) => record(fields),
     }
@@ -63,7 +63,7 @@ fn listing(number: u64, event: &Event) -> String {
     for entry in entries {
         out += &format!(
             "entity {} {} {}\n",
-            entry.key,
+            quoted(entry.key),
             record(entry.record),
             array(entry.parents)
         );
@@ -91,10 +91,9 @@ impl Numbers {
     }
 
     fn entity(&mut self) -> String {
-        format!(
-            "Site::Part::\"{}\"",
-            ["a", "K\\'7", "\\u{e9}\\n", "", "é"][self.below(5) as usize]
-        )
+        let ty = ["Site::Part", "T\\", "'", "\u{301}x\u{301}", "A\u{a0}B"][self.below(5) as usize];
+        let id = ["a", "K\\'7", "\\u{e9}\\n", "", "é"][self.below(5) as usize];
+        format!("{ty}::\"{id}\"")
     }
 
     fn value(&mut self, levels: u32) -> String {
@@ -130,8 +129,8 @@ impl Numbers {
                 .map(|i| {
                     let parents: Vec<_> = (0..self.below(3)).map(|_| self.entity()).collect();
                     format!(
-                        "C{}::\"{i}\": {{{}}} in [{}]",
-                        9 - i,
+                        "{}::\"{i}\": {{{}}} in [{}]",
+                        ["A", "'", "a", "x y"][self.below(4) as usize],
                         self.fields(2),
                         parents.join(", ")
                     )
@@ -150,7 +149,7 @@ impl Numbers {
 fn a_view_prints_as_the_listing_does() {
     let mut numbers = Numbers(2026);
     let (mut tables, mut others) = (Tables::new(), Tables::new());
-    let mut out = vec![0; 65_536];
+    let mut out = vec![0; lulzhemor::LISTING_ROOM];
     let mut read = 0;
     for number in 1..=5_000 {
         let line = numbers.line();
@@ -184,7 +183,7 @@ fn the_deepest_value_is_walked() {
     );
     let mut tables = Tables::new();
     let printed = listing(1, &tables.read_line(line.as_bytes()).unwrap().unwrap());
-    let mut out = vec![0; 65_536];
+    let mut out = vec![0; lulzhemor::LISTING_ROOM];
     assert_eq!(
         tables.list_line(&mut out, line.as_bytes(), 1),
         Ok(Some(printed.as_str()))

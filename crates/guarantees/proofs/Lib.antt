@@ -5,9 +5,14 @@ pub mod DistinctNames
 pub mod StoredKeys
 pub mod PackKeys
 pub mod NightListing
+pub mod Listings
 pub mod Merging
 pub mod ProofSet
 pub mod LineEntries
+mod MapLaws
+mod MapListed
+mod MapRange
+mod Listed
 mod Consequence
 mod RefusalLaws
 mod LineTexts
@@ -26,3 +31,4 @@ mod MergedLogs
 mod Facts
 mod Examples
 mod MergeExamples
+mod MapExamples

@@ -19,7 +19,7 @@ use Rattle.logs.specs.declared.Cursor.{Cursor}
 use Rattle.logs.proofs.Cutting.{first_lines, lines_behind}
 use Rattle.logs.proofs.Judging.{judge_too_long}
 use Rattle.log_listing.specs.Night.{line_text, event_in, events_from, count_text, refusal_text, night_text, night_listing}
-use Rattle.log_listing.specs.Stretch.{Piece, more, last, first_piece, line_piece, stretch_at, stretch_of, StretchWhole, left, Falls}
+use Rattle.log_listing.specs.Stretch.{Piece, more, last, first_piece, line_piece, stretch_at, stretch_of, StretchWhole, left}
 use Rattle.log_listing.specs.declared.Place.{Place}
 use Rattle.log_listing.specs.declared.Place.TheVariants.{Start, Line}
 use Rattle.log_listing.proofs.Pieces.{onward}

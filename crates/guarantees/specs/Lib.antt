@@ -6,3 +6,4 @@ pub mod ProofSet
 pub mod Promised
 pub mod Stretches
 pub mod Merging
+pub mod Maps

@@ -32,7 +32,8 @@ use Rattle.logs.specs.Judge.{of_text, counted, count_line, judged_by, judge_log}
 use Rattle.event_lines.proofs.Extent.{unmarked_within}
 use Rattle.listing.specs.Lines.{event_line, list_sheet, list_event}
 use Rattle.listing.specs.Entry.{list_answer}
-use Rattle.listing.proofs.Longest.{longest, ListsWithin, listing_short}
+use Rattle.listing.specs.SizeAt.{longest_listing}
+use Rattle.listing.proofs.Longest.{ListsWithin, listing_short}
 use Rattle.lulzhemor.specs.Answer.{refused_from, counted_answer, of_judged, judge_answer, of_listed, line_listed}
 use Rattle.std.specs.Prelude.{Err, None, Ok, Option, Result, Some}
 use Rattle.logs.specs.declared.LineRefusal.{LineRefusal}
@@ -146,7 +147,7 @@ spell_small ty id room =
     (omega (arith, ltb-false line_limit (length ty) (or_none_left t i h), ltb-false line_limit (length id) (or_none_right t i h), key_short ty id)))))
 
 abbrev pub SmallListed : Result (Option ℕ) Refusal → Type 0
-SmallListed (Ok (Some n)) = (n ≤ longest) × (1 ≤ n)
+SmallListed (Ok (Some n)) = (n ≤ longest_listing) × (1 ≤ n)
 SmallListed (Ok None) = Unit {0}
 SmallListed (Err n) = Unit {0}
 
@@ -155,7 +156,7 @@ listing_long : (number : ℕ) (e : Event) → 1 ≤ length (list_event number e)
 unfolding list_event list_sheet event_line
 listing_long number e = omega arith
 
-answer_listed : (number room : ℕ) (a : Answer) → ListsWithin longest number a → SmallListed (list_answer number room a)
+answer_listed : (number room : ℕ) (a : Answer) → ListsWithin longest_listing number a → SmallListed (list_answer number room a)
 answer_listed number room (event e) h = both_arms SmallListed (leb (length (list_event number e)) room) (h, listing_long number e) tt
 answer_listed number room blank h = tt
 answer_listed number room (Answer.refused n) h = tt
