@@ -2,10 +2,14 @@
 //! Each row is first checked: both sides must give the same answer. Then they run in turns, and the least time of each counts,
 //! since the machine is shared. Prints a Markdown table; a ratio above 1 means that ours is faster.
 
+#[path = "bench_cells.rs"]
+mod cells;
 #[path = "bench_logs.rs"]
 mod logs;
 #[path = "bench_merges.rs"]
 mod merges;
+#[path = "bench_peer.rs"]
+mod peer;
 
 use oracle::pack::Pack;
 use oracle::reader;
@@ -53,6 +57,18 @@ mod ours {
                 second: *const u8,
                 o: usize,
             ) -> u64;
+            pub fn lulzhemor_read_entities(
+                kinds: *mut u8,
+                k: usize,
+                numbers: *mut u64,
+                m: usize,
+                texts: *mut u8,
+                l: usize,
+                sizes: *mut [u64; 2],
+                text: *const u8,
+                n: usize,
+            ) -> u64;
+            pub fn bench_is_json(nesting: *mut u8, m: usize, s: *const u8, n: usize) -> bool;
             pub fn lulzhemor_list_line(
                 kinds: *mut u8,
                 k: usize,
@@ -169,6 +185,31 @@ mod ours {
                 second.len(),
             )
         }
+    }
+
+    /// Refusal n is this number and n.
+    pub const REFUSED: u64 = 1 << 32;
+
+    pub fn read_entities(tables: &mut super::Tables, sizes: &mut [u64; 2], text: &[u8]) -> u64 {
+        unsafe {
+            c::lulzhemor_read_entities(
+                tables.kinds.as_mut_ptr(),
+                tables.kinds.len(),
+                tables.numbers.as_mut_ptr(),
+                tables.numbers.len(),
+                tables.texts.as_mut_ptr(),
+                tables.texts.len(),
+                sizes,
+                text.as_ptr(),
+                text.len(),
+            )
+        }
+    }
+
+    /// Each byte may open a bracket, for which `is_json` requires room.
+    pub fn is_json(nesting: &mut [u8], s: &[u8]) -> bool {
+        assert!(s.len() <= nesting.len());
+        unsafe { c::bench_is_json(nesting.as_mut_ptr(), nesting.len(), s.as_ptr(), s.len()) }
     }
 
     pub fn list_line(tables: &mut super::Tables, out: &mut [u8], line: &[u8], number: u64) -> u64 {
@@ -731,6 +772,8 @@ fn main() {
     match words.iter().map(String::as_str).collect::<Vec<_>>()[..] {
         ["kinds"] => logs::names(),
         ["once", kind, side] => logs::once(kind, side),
+        ["cells kinds"] => cells::names(),
+        ["cells once", kind, side] => cells::once(kind, side),
         ["merged kinds"] => merges::names(),
         ["merged once", kind, side] => merges::once(kind, side),
         _ => tables(words.first().map_or("", String::as_str)),
@@ -748,4 +791,5 @@ fn tables(word: &str) {
     value_rows();
     logs::rows(word);
     merges::rows(word);
+    cells::rows(word);
 }

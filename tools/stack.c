@@ -38,6 +38,11 @@ static void *list_line(void *unused) {
     return unused;
 }
 
+static void *read_entities(void *unused) {
+    answer = lulzhemor_read_entities(TABLES, sizes, (const uint8_t *)line, length);
+    return unused;
+}
+
 /* The line is both logs. */
 static void *merge(void *unused) {
     const uint8_t *log = (const uint8_t *)line;
@@ -68,12 +73,21 @@ static void nest(const char *front, const char *open, const char *inside, const 
     length = (size_t)(to - line);
 }
 
+static const char *said(void) {
+    static char says[32];
+    snprintf(says, sizeof says, lulzhemor_refused(answer) ? "refused %u" : "accepted", lulzhemor_refusal(answer));
+    return says;
+}
+
 static void row(const char *what) {
     size_t base = used(nothing);
     size_t judged = used(judge), merged = used(merge), read = used(read_line), listed = used(list_line);
-    char says[32] = "accepted";
-    if (lulzhemor_refused(answer)) snprintf(says, sizeof says, "refused %u", lulzhemor_refusal(answer));
-    printf("| %s | %s | %zu | %zu | %zu | %zu |\n", what, says, judged - base, merged - base, read - base, listed - base);
+    printf("| %s | %s | %zu | %zu | %zu | %zu |\n", what, said(), judged - base, merged - base, read - base, listed - base);
+}
+
+static void entities_row(const char *what) {
+    size_t read = used(read_entities) - used(nothing);
+    printf("| %s | %s | %zu |\n", what, said(), read);
 }
 
 int main(void) {
@@ -99,5 +113,17 @@ int main(void) {
     row("records, too deep");
     nest("@0 scope(principal: ", "{a: ", "1", "}", ") D::\"a\"::k()", 128);
     row("records in scope, 128 deep");
+    static const char cell[] = "[{\"uid\":{\"type\":\"C\",\"id\":\"a\"},\"attrs\":{\"v\":", close[] = "},\"parents\":[]}]";
+    printf("\n| entities JSON | | read_entities |\n|---|---|---:|\n");
+    nest(cell, "", "1", "", close, 0);
+    entities_row("one integer");
+    nest(cell, "[", "1", "]", close, 127);
+    entities_row("arrays, 128 deep");
+    nest(cell, "{\"a\":", "\"\\n\"", "}", close, 127);
+    entities_row("records, 128 deep");
+    nest(cell, "{\"a\":", "1", "}", close, 200);
+    entities_row("records, too deep");
+    nest("", "[", "", "]", "", 2048);
+    entities_row("arrays nested to the end");
     return 0;
 }

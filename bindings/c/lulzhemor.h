@@ -1,6 +1,6 @@
 /*
- * Lulzhemor: reads the .log format of the policy engine Dogwood. Every function here is proved to return, to stay inside what it is lent,
- * and to answer what its definition says, on every input. Nothing is kept between calls, nothing is allocated.
+ * Lulzhemor: reads the .log format of the policy engine Dogwood, and Cedar's entities JSON. Every function here is proved to return, to stay
+ * inside what it is lent, and to answer what its definition says, on every input. Nothing is kept between calls, nothing is allocated.
  *
  * Link with crates/lulzhemor/out/liblulzhemor.a (`rt lib` in crates/lulzhemor), for x86-64 Linux.
  *
@@ -27,10 +27,12 @@ extern "C" {
 #define LULZHEMOR_TEXT_LIMIT 65536
 /* A trimmed line, a body, an id or a type, in bytes: refusal 4 above this. */
 #define LULZHEMOR_LINE_LIMIT 4096
+/* Entities JSON, in bytes, nothing trimmed: refusal 4 above this. */
+#define LULZHEMOR_JSON_LIMIT 4096
 /* The least entries of a pack's kinds and of its numbers, and of its text bytes: refusal 1 below this. A longer table is used this far. */
 #define LULZHEMOR_NODES 8192
 #define LULZHEMOR_TEXTS 32768
-/* The entries of the array of sizes that lulzhemor_read_line is lent, and what they are. */
+/* The entries of the array of sizes that lulzhemor_read_line and lulzhemor_read_entities are lent, and what they are. */
 #define LULZHEMOR_FRONT 2
 enum lulzhemor_front {
     LULZHEMOR_FRONT_NODES = 0, /* how many nodes the pack has */
@@ -50,6 +52,8 @@ enum lulzhemor_front {
 /* What lulzhemor_read_line answers of a line that has an event, and of a blank one. lulzhemor_list_line answers the same of a blank one. */
 #define LULZHEMOR_EVENT UINT64_C(1)
 #define LULZHEMOR_BLANK UINT64_C(0)
+/* What lulzhemor_read_entities answers of a text that it has read. */
+#define LULZHEMOR_PACK UINT64_C(1)
 
 static inline bool lulzhemor_refused(uint64_t answer) { return answer >= LULZHEMOR_REFUSED; }
 
@@ -95,6 +99,8 @@ enum lulzhemor_refusal {
     LULZHEMOR_KEY_NO_ENTITY = 33,
     LULZHEMOR_DUPLICATE_KEY = 34,
     LULZHEMOR_ENTRY_NOT_A_RECORD = 35,
+    LULZHEMOR_NOT_JSON = 36,
+    LULZHEMOR_NOT_ENTITIES = 37,
     LULZHEMOR_TIMES_FALL_IN_FIRST = 45,
     LULZHEMOR_TIMES_FALL_IN_SECOND = 46,
     LULZHEMOR_MERGED_TOO_LONG = 47
@@ -106,7 +112,7 @@ static inline const char *lulzhemor_refusal_text(unsigned refusal) {
     case LULZHEMOR_TABLE_TOO_SHORT: return "a pack table is too short";
     case LULZHEMOR_TEXT_TOO_LONG: return "the text has over 65,536 bytes";
     case LULZHEMOR_NOT_UTF8: return "the text is not UTF-8";
-    case LULZHEMOR_LINE_TOO_LONG: return "a trimmed line (or a body, id or type) has over 4,096 bytes";
+    case LULZHEMOR_LINE_TOO_LONG: return "a trimmed line (or a body, id, type or entities JSON) has over 4,096 bytes";
     case LULZHEMOR_OUTPUT_TOO_SHORT: return "the output is too short for the answer";
     case LULZHEMOR_NO_AT: return "the line does not begin with @";
     case LULZHEMOR_NO_SPACE_AFTER_TIME: return "no whitespace behind the time";
@@ -134,6 +140,8 @@ static inline const char *lulzhemor_refusal_text(unsigned refusal) {
     case LULZHEMOR_KEY_NO_ENTITY: return "an entry's key is no entity";
     case LULZHEMOR_DUPLICATE_KEY: return "two entries have one key";
     case LULZHEMOR_ENTRY_NOT_A_RECORD: return "an entry's value is no record";
+    case LULZHEMOR_NOT_JSON: return "the text is no JSON, or has a lone surrogate";
+    case LULZHEMOR_NOT_ENTITIES: return "the JSON does not have the shape of entities, or a type begins with whitespace";
     case LULZHEMOR_TIMES_FALL_IN_FIRST: return "the first log's times fall";
     case LULZHEMOR_TIMES_FALL_IN_SECOND: return "the second log's times fall";
     case LULZHEMOR_MERGED_TOO_LONG: return "the merged log has over 65,536 bytes";
@@ -143,10 +151,11 @@ static inline const char *lulzhemor_refusal_text(unsigned refusal) {
 
 /* ---- The pack ----
  * An event as nodes, each a kind and a number, in this order: time, principal, resource, namespace (an array of texts), action, kind,
- * logged, context (records), entities (a record whose fields are stored key, record, array of parents). */
+ * logged, context (records), entities (a record whose fields are stored key, record, array of parents). Entities JSON has only entities:
+ * time, principal and resource are absent, and the others have nothing in them. */
 
 enum lulzhemor_kind {
-    LULZHEMOR_ABSENT = 0,  /* no principal, or no resource; number 0 */
+    LULZHEMOR_ABSENT = 0,  /* no principal, no resource, or of entities JSON no time; number 0 */
     LULZHEMOR_NULL = 1,    /* number 0, as in the next two */
     LULZHEMOR_FALSE = 2,
     LULZHEMOR_TRUE = 3,
@@ -164,9 +173,9 @@ static inline uint32_t lulzhemor_text_start(uint64_t number) { return (uint32_t)
 static inline uint32_t lulzhemor_text_length(uint64_t number) { return (uint32_t)number; }
 
 /* ---- Functions ----
- * Where tables are lent, refusal 1 changes none of them. After lulzhemor_read_line has read an event they hold its pack, and zeros up to their
- * bounds; after any other answer, zeros up to their bounds. What lies past the bounds never changes. A refusal never changes an output, nor
- * does a blank line. */
+ * Where tables are lent, refusal 1 changes none of them. After LULZHEMOR_EVENT of lulzhemor_read_line and LULZHEMOR_PACK of
+ * lulzhemor_read_entities they hold the pack, and zeros up to their bounds; after any other answer, zeros up to their bounds. What lies past
+ * the bounds never changes. A refusal never changes an output, nor does a blank line. */
 
 /* Is the text UTF-8? */
 bool lulzhemor_is_utf8(const uint8_t *text, size_t text_len);
@@ -184,6 +193,13 @@ uint64_t lulzhemor_merge(uint8_t *kinds, size_t kinds_len, uint64_t *numbers, si
  * an event changes them. A line feed inside is whitespace. */
 uint64_t lulzhemor_read_line(uint8_t *kinds, size_t kinds_len, uint64_t *numbers, size_t numbers_len, uint8_t *texts, size_t texts_len,
                              uint64_t sizes[LULZHEMOR_FRONT], const uint8_t *line, size_t line_len);
+
+/* Reads entities JSON into a pack: LULZHEMOR_PACK, and the pack's sizes are written; or a refusal, which leaves them. An entity's nodes are those
+ * that a line gives of the same type, id, record and parents, and so is its stored key. The text
+ *     [{"uid": {"type": "Cell", "id": "K'7"}, "attrs": {"dug": true}, "parents": []}]
+ * gives 14 nodes, the last five of them the stored key Cell::"K\'7", a record of one field, its name, true, and an array of no parents. */
+uint64_t lulzhemor_read_entities(uint8_t *kinds, size_t kinds_len, uint64_t *numbers, size_t numbers_len, uint8_t *texts, size_t texts_len,
+                                 uint64_t sizes[LULZHEMOR_FRONT], const uint8_t *text, size_t text_len);
 
 /* Writes the night listing of one line's event, which has this number: its bytes, LULZHEMOR_BLANK, or a refusal. As event 1 the line
  *     @7 entities(Cell::"K'7": {}) Dig::"go"::ask(cell: Cell::"K'7")

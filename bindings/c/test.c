@@ -213,6 +213,62 @@ static void reading(void) {
     CHECK(r == LULZHEMOR_REFUSED + LULZHEMOR_TABLE_TOO_SHORT && untouched() && sized(77, 77));
 }
 
+#define ENTITY "{\"uid\":{\"type\":\"Cell\",\"id\":\"K'7\"},\"attrs\":{},\"parents\":[]}"
+
+/* Members in another order than the pack's, all kinds of values but false, escapes in a name and in an id. */
+static const char CELLS[] =
+    "[{\"parents\":[{\"type\":\"Site\",\"id\":\"A\"}],\"attrs\":{\"dug\":true,\"left\":-2,"
+    "\"at\":{\"\\u005f_entity\":{\"id\":\"A\",\"type\":\"Site\"}},\"m\":[\"n\",null,{}]},\"uid\":{\"type\":\"Cell\",\"id\":\"K\\u00277\"}}]";
+
+static void reading_entities(void) {
+    fill();
+    CHECK(lulzhemor_read_entities(TABLES, sizes, BYTES("\t[ ]\r\n")) == LULZHEMOR_PACK && sized(9, 0) && used(9, 0));
+    for (size_t i = 0; i < 3; i++) CHECK(node(i, LULZHEMOR_ABSENT, 0) && node(6 + i, LULZHEMOR_RECORD, 0));
+    CHECK(node(3, LULZHEMOR_ARRAY, 0) && node(4, LULZHEMOR_TEXT, 0) && node(5, LULZHEMOR_TEXT, 0));
+    fill();
+    CHECK(lulzhemor_read_entities(TABLES, sizes, BYTES(CELLS)) == LULZHEMOR_PACK && sized(28, 33) && used(28, 33));
+    CHECK(node(8, LULZHEMOR_RECORD, 1) && text_node(9, LULZHEMOR_TEXT, "Cell::\"K\\'7\"") && node(10, LULZHEMOR_RECORD, 4));
+    CHECK(text_node(11, LULZHEMOR_TEXT, "dug") && node(12, LULZHEMOR_TRUE, 0));
+    CHECK(text_node(13, LULZHEMOR_TEXT, "left") && node(14, LULZHEMOR_INTEGER, (uint64_t)-2));
+    CHECK(text_node(15, LULZHEMOR_TEXT, "at") && node(16, LULZHEMOR_ENTITY, 0));
+    CHECK(text_node(17, LULZHEMOR_TEXT, "Site") && text_node(18, LULZHEMOR_TEXT, "A"));
+    CHECK(text_node(19, LULZHEMOR_TEXT, "m") && node(20, LULZHEMOR_ARRAY, 3) && text_node(21, LULZHEMOR_STRING, "n"));
+    CHECK(node(22, LULZHEMOR_NULL, 0) && node(23, LULZHEMOR_RECORD, 0) && node(24, LULZHEMOR_ARRAY, 1) && node(25, LULZHEMOR_ENTITY, 0));
+    CHECK(text_node(26, LULZHEMOR_TEXT, "Site") && text_node(27, LULZHEMOR_TEXT, "A"));
+}
+
+/* Entities JSON is refused so: the tables are cleared, and the sizes as they were. */
+static bool no_entities(const uint8_t *text, size_t length, unsigned number) {
+    fill();
+    return lulzhemor_read_entities(TABLES, sizes, text, length) == LULZHEMOR_REFUSED + number && used(0, 0) && sized(77, 77);
+}
+
+static void reading_entities_refused(void) {
+    static uint8_t text[LULZHEMOR_TEXT_LIMIT + 1];
+    memset(text, ' ', sizeof text);
+    text[0] = '[', text[1] = ']';
+    fill();
+    CHECK(lulzhemor_read_entities(TABLES, sizes, text, LULZHEMOR_JSON_LIMIT) == LULZHEMOR_PACK && sized(9, 0) && used(9, 0));
+    CHECK(no_entities(text, LULZHEMOR_JSON_LIMIT + 1, LULZHEMOR_LINE_TOO_LONG));
+    CHECK(no_entities(text, LULZHEMOR_TEXT_LIMIT, LULZHEMOR_LINE_TOO_LONG));
+    CHECK(no_entities(text, LULZHEMOR_TEXT_LIMIT + 1, LULZHEMOR_TEXT_TOO_LONG));
+    CHECK(no_entities(BYTES("[\"\xc3\"]"), LULZHEMOR_NOT_UTF8));
+    CHECK(no_entities(BYTES(""), LULZHEMOR_NOT_JSON) && no_entities(BYTES("{} x"), LULZHEMOR_NOT_JSON));
+    CHECK(no_entities(BYTES("[1,\"\\ud800\"]"), LULZHEMOR_NOT_JSON) && no_entities(BYTES("[1,\"\\ud800\\udc00\"]"), LULZHEMOR_NOT_ENTITIES));
+    CHECK(no_entities(BYTES("[{\"uid\":{\"type\":\" Cell\",\"id\":\"K'7\"},\"attrs\":{},\"parents\":[]}]"), LULZHEMOR_NOT_ENTITIES));
+    CHECK(no_entities(BYTES("[{\"attrs\":{\"a\":1,\"\\u0061\":2}}]"), LULZHEMOR_DUPLICATE_FIELD));
+    CHECK(no_entities(BYTES("[" ENTITY "," ENTITY "]"), LULZHEMOR_DUPLICATE_KEY));
+    size_t n = widened(text, "[{\"attrs\":{\"a\":", "[", 129, "");
+    n += widened(text + n, "", "]", 129, "}}]");
+    CHECK(no_entities(text, n, LULZHEMOR_VALUE_TOO_DEEP));
+    for (size_t each = 0; each < 3; each++) {
+        fill();
+        uint64_t r = lulzhemor_read_entities(kinds, LULZHEMOR_NODES - (each == 0), numbers, LULZHEMOR_NODES - (each == 1), texts,
+                                             LULZHEMOR_TEXTS - (each == 2), sizes, BYTES("[]"));
+        CHECK(r == LULZHEMOR_REFUSED + LULZHEMOR_TABLE_TOO_SHORT && untouched() && sized(77, 77));
+    }
+}
+
 static void listing(void) {
     fill();
     CHECK(lulzhemor_list_line(TABLES, out, sizeof out, BYTES(EVENT), 3) == strlen(LISTING));
@@ -250,7 +306,7 @@ static void long_listing(void) {
     CHECK(LULZHEMOR_LISTING_ROOM == 7 * LULZHEMOR_LINE_LIMIT + 1);
 }
 
-static bool is_refusal(unsigned n) { return (n >= 1 && n <= 5) || (n >= 10 && n <= 35) || (n >= 45 && n <= 47); }
+static bool is_refusal(unsigned n) { return (n >= 1 && n <= 5) || (n >= 10 && n <= 37) || (n >= 45 && n <= 47); }
 
 /* Each number has a text of its own; all others share one. */
 static void refusal_texts(void) {
@@ -284,6 +340,8 @@ int main(void) {
     merging_refused();
     merging_long();
     reading();
+    reading_entities();
+    reading_entities_refused();
     listing();
     long_listing();
     refusal_texts();

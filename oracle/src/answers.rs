@@ -2,7 +2,7 @@
 
 use crate::pack::Pack;
 use crate::value::entity_uid_string;
-use crate::{hex, limits, listing, merge, ranges, reader, scans};
+use crate::{cells, hex, limits, listing, merge, ranges, reader, scans};
 
 fn refused(number: u8) -> String {
     format!("refused {number}\n")
@@ -43,6 +43,10 @@ pub fn pack(text: &[u8]) -> String {
         Ok(None) => "blank\n".to_string(),
         Err(refusal) => refused(refusal),
     }
+}
+
+pub fn cells(text: &[u8]) -> String {
+    cells::pack(text).map_or_else(refused, |pack| pack.print())
 }
 
 pub fn value(text: &[u8]) -> String {

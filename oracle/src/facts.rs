@@ -1,8 +1,10 @@
 //! What document 01 says of the Rust, and the odd cases of its reading, checked by running it. A
 //! fact is a name (the input, as far as it can be printed), what the oracle gives, and what is stated.
 
-use crate::limits::{LINE, TEXT};
-use crate::{answers, hex, ranges};
+use crate::cells_traps::{self, Stated, Trap};
+use crate::limits::{self, LINE, TEXT};
+use crate::pack::Pack;
+use crate::{answers, cells, hex, ranges};
 
 struct Facts {
     count: usize,
@@ -71,6 +73,7 @@ pub fn report() -> Result<String, String> {
     sizes(&mut facts);
     decodings_and_numbers(&mut facts);
     packs(&mut facts);
+    cells(&mut facts);
     escape_debug(&mut facts);
     if facts.failures.is_empty() {
         Ok(format!("oracle: {} facts, all as stated\n", facts.count))
@@ -305,6 +308,41 @@ fn packs(facts: &mut Facts) {
         written,
         "nodes 5 texts 2\n9 2\n10 1\n4 1\n10 4294967297\n4 2\n6261\n",
     );
+}
+
+/// Entities JSON: what is stated of each trap, and the nodes before the entities.
+fn cells(facts: &mut Facts) {
+    let nothing = "nodes 9 texts 0\n0 0\n0 0\n0 0\n8 0\n10 0\n10 0\n9 0\n9 0\n9 0\n-\n";
+    facts.holds("no entities", answers::cells(b"[]"), nothing);
+    for (text, number) in [(&b"[\xff]"[..], 3), (&[b' '; TEXT + 1], 2), (&[b' '; LINE + 1], 4)] {
+        let name = format!("{} bytes of JSON", text.len());
+        facts.holds(&name, answers::cells(text), format!("refused {number}\n"));
+    }
+    for Trap { text, stated } in cells_traps::all() {
+        let name: String = text.chars().take(200).collect();
+        let read = cells::pack(text.as_bytes());
+        match stated {
+            Stated::Refused(number) => {
+                let given = read.map_or_else(|n| format!("refused {n}"), |_| "a pack".to_string());
+                facts.holds(&name, given, format!("refused {number}"));
+            }
+            Stated::Envelope(body) => {
+                let given = read.map(|pack| pack.entities_alone().print());
+                facts.holds(
+                    &name,
+                    format!("{given:?}"),
+                    format!("{:?}", Ok::<_, u8>(envelope(&body))),
+                );
+            }
+        }
+    }
+}
+
+/// The entities of a line with this envelope.
+fn envelope(body: &str) -> String {
+    let line = format!("@0 entities({body})::\"\"::k()");
+    let (trimmed, event) = limits::line(line.as_bytes()).expect("a line").expect("an event");
+    Pack::of_event(trimmed, &event).entities_alone().print()
 }
 
 fn escape_debug(facts: &mut Facts) {

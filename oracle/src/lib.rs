@@ -9,8 +9,11 @@ mod plain;
 mod tagged;
 
 pub mod answers;
+pub mod cells;
+pub mod cells_traps;
 pub mod facts;
 pub mod hex;
+pub mod json;
 pub mod limits;
 pub mod listing;
 pub mod merge;

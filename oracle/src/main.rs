@@ -7,6 +7,7 @@
 //!     oracle line NUMBER        one line's listing as event NUMBER; nothing for a blank line
 //!     oracle pack               one line's pack (counts, `kind number` of each node, texts in
 //!                               hex), or `blank`
+//!     oracle cells              the pack of a text of entities JSON
 //!     oracle value              the pack of one value, read at depth 0
 //!     oracle decode             the text with its escapes decoded, in hex
 //!     oracle cuts               the byte places of the commas that cut the text
@@ -27,7 +28,7 @@ use std::process::exit;
 
 fn usage() -> ! {
     eprintln!(
-        "usage: oracle listing|judge|merge SECOND|line NUMBER|pack|value|decode|cuts|key TYPE ID|trim|utf8|ranges|selftest|batch"
+        "usage: oracle listing|judge|merge SECOND|line NUMBER|pack|cells|value|decode|cuts|key TYPE ID|trim|utf8|ranges|selftest|batch"
     );
     exit(2);
 }
@@ -40,6 +41,7 @@ fn answer(command: &str, input: &[u8], argument: Option<&str>) -> Option<String>
         "merge" => answers::merge(input, &hex::read(argument?)?),
         "line" => answers::line(input, argument?.parse().ok()?),
         "pack" => answers::pack(input),
+        "cells" => answers::cells(input),
         "value" => answers::value(input),
         "decode" => answers::decode(input),
         "cuts" => answers::cuts(input),

@@ -10,11 +10,21 @@ pub enum Ask {
     Decode,
     Key,
     Merge,
+    /// The pack of a text of entities JSON.
+    Cells,
 }
 
-pub const ASKED: usize = 7;
-pub const ASKS: [&str; ASKED] =
-    ["judge", "read_line", "list_line", "cut_body", "decode", "spell_key", "merge"];
+pub const ASKED: usize = 8;
+pub const ASKS: [&str; ASKED] = [
+    "judge",
+    "read_line",
+    "list_line",
+    "cut_body",
+    "decode",
+    "spell_key",
+    "merge",
+    "read_entities",
+];
 
 impl Ask {
     pub fn index(self) -> usize {
@@ -26,11 +36,12 @@ impl Ask {
             Ask::Decode => 4,
             Ask::Key => 5,
             Ask::Merge => 6,
+            Ask::Cells => 7,
         }
     }
 
     pub fn has_tables(self) -> bool {
-        self.index() < 3 || self == Ask::Merge
+        self.index() < 3 || matches!(self, Ask::Merge | Ask::Cells)
     }
 }
 

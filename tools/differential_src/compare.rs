@@ -2,11 +2,10 @@
 
 mod product;
 
+use differential::Subject;
 use differential::answer::{ASKED, ASKS, Answer, Ask, Question};
 use differential::expected::Oracle;
 use differential::minimise::minimised;
-use differential::pairs::Pair;
-use differential::{log, questions};
 use product::Product;
 use std::collections::BTreeMap;
 use std::process::exit;
@@ -52,10 +51,14 @@ impl Counts {
         self.refused.iter().for_each(|(refusal, times)| row(&format!("refused {refusal}"), times));
     }
 
-    /// The numbers that were not met. No log can meet 35, and only merging meets those from 45 on.
-    fn missing(&self, merging: bool) -> Vec<u8> {
-        let all = (1..=5).chain(10..=34).chain(45..=47);
-        let expected = all.filter(|number| merging || *number < 45);
+    /// The numbers that were not met. No log can meet 35, only entities JSON meets 36 and 37, and only merging those from 45 on.
+    fn missing(&self, asked: impl Fn(Ask) -> bool) -> Vec<u8> {
+        let all = (1..=5).chain(10..=34).chain(36..=37).chain(45..=47);
+        let expected = all.filter(|number| match number {
+            36 | 37 => asked(Ask::Cells),
+            45.. => asked(Ask::Merge),
+            _ => true,
+        });
         expected.filter(|number| !self.refused.contains_key(number)).collect()
     }
 }
@@ -90,13 +93,10 @@ impl Run {
     }
 
     fn one(&self, index: u64, product: &mut Product, counts: &mut Counts) -> bool {
-        let (log, mut random) = log(self.seed, index);
-        let mut pair = Pair::new(self.seed, index);
-        counts.bytes += (log.len() + pair.first.len() + pair.second.len()) as u64;
+        let mut subject = Subject::new(self.seed, index);
+        counts.bytes += subject.bytes() as u64;
         let mut oracle = Oracle::default();
-        let mut all = questions::about(&mut random, &log);
-        all.extend(pair.questions());
-        for question in all {
+        for question in subject.questions() {
             let ask = question.ask.index();
             if self.skip.contains(&ask) {
                 continue;
@@ -116,22 +116,20 @@ impl Run {
 
     /// Shows the first difference, as small as it gets.
     fn show(&self, index: u64) {
-        let (log, mut random) = log(self.seed, index);
         let differs = |question: &Question| {
             let (answer, room) = Oracle::default().answer(question);
             !self.skip.contains(&question.ask.index())
                 && Product::new().answer(question, room) != answer
         };
-        let mut pair = Pair::new(self.seed, index);
-        let mut all = questions::about(&mut random, &log);
-        all.extend(pair.questions());
+        let mut subject = Subject::new(self.seed, index);
+        let all = subject.questions();
         let question =
             all.iter().find(|question| differs(question)).expect("a log with a difference");
         let (text, other) = minimised(question, &differs);
         let small = Question { text: &text, other: &other, ..*question };
         let (answer, room) = Oracle::default().answer(&small);
         println!("difference, seed {}, log {index}: {}", self.seed, small.print());
-        if small.ask != Ask::Judge && small.ask != Ask::Read {
+        if !matches!(small.ask, Ask::Judge | Ask::Read | Ask::Cells) {
             println!("  output of {room} entries");
         }
         println!("oracle:  {}", answer.print());
@@ -150,12 +148,12 @@ impl Run {
         let asked: u64 = total.asked.iter().sum();
         let seconds = self.started.elapsed().as_secs();
         println!(
-            "seed {}: {} logs and as many pairs of logs, {} bytes, {asked} questions, {seconds} s",
+            "seed {}: {} logs, as many pairs of logs and entities JSON, {} bytes, {asked} questions, {seconds} s",
             self.seed, self.count, total.bytes
         );
         self.skip.iter().for_each(|index| println!("left out: {}", ASKS[*index]));
         total.print();
-        let missing = total.missing(!self.skip.contains(&Ask::Merge.index()));
+        let missing = total.missing(|ask| !self.skip.contains(&ask.index()));
         if !missing.is_empty() {
             println!("refusals that were not met: {missing:?}");
             return false;

@@ -3,7 +3,7 @@
 use crate::answer::{Answer, Ask, Question, Tables};
 use oracle::pack::Pack;
 use oracle::value::Event;
-use oracle::{answers, limits, listing, merge};
+use oracle::{answers, cells, limits, listing, merge};
 
 type Line<'a> = Result<Option<(&'a str, Event)>, u8>;
 
@@ -34,10 +34,9 @@ impl<'a> Oracle<'a> {
                 Ok(events) => Answer::Events(events.len()),
                 Err((number, line)) => Answer::RefusedAt(number, line),
             },
-            Ask::Read => self.line(text, |line, event| {
-                let Pack { kinds, numbers, texts } = Pack::of_event(line, event);
-                Answer::Pack(Tables { kinds, numbers, texts })
-            }),
+            Ask::Read => {
+                self.line(text, |line, event| Answer::Pack(tables(Pack::of_event(line, event))))
+            }
             Ask::List(number) => self.line(text, |line, event| {
                 let listed = listing::event(number, event);
                 assert!(listed.len() <= limits::listing(line), "a listing is too long: {line}");
@@ -52,6 +51,9 @@ impl<'a> Oracle<'a> {
                 .map_or_else(Answer::Refused, |text| Answer::Text(text.into_bytes())),
             Ask::Key => answers::stored_key(question.other, text)
                 .map_or_else(Answer::Refused, |key| Answer::Text(key.into_bytes())),
+            Ask::Cells => {
+                cells::pack(text).map_or_else(Answer::Refused, |pack| Answer::Pack(tables(pack)))
+            }
             Ask::Merge => match merge::logs(text, question.other, usize::MAX) {
                 Ok(merged) => Answer::Text(merged.into_bytes()),
                 Err((number, log, line)) => Answer::RefusedIn(number, log, line),
@@ -72,6 +74,10 @@ impl<'a> Oracle<'a> {
             Err(number) => Answer::Refused(*number),
         }
     }
+}
+
+fn tables(Pack { kinds, numbers, texts }: Pack) -> Tables {
+    Tables { kinds, numbers, texts }
 }
 
 /// A refusal that speaks of no text.

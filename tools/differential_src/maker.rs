@@ -35,9 +35,14 @@ fn mixed(seed: u64, index: u64) -> u64 {
     n ^ (n >> 31)
 }
 
+/// The choices of what has this number.
+pub fn random(seed: u64, index: u64) -> Random {
+    Random::new(mixed(seed, index))
+}
+
 impl Maker {
     pub fn new(seed: u64, index: u64) -> Maker {
-        let mut random = Random::new(mixed(seed, index));
+        let mut random = random(seed, index);
         let spaces = *random.pick(&[2, 4, 8, 20]);
         let tame = !random.once_in(3);
         Maker { random, spaces, tame }

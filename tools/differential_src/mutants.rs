@@ -1,13 +1,12 @@
 //! Measures the generated logs: mutants [N] [SEED]. The second reader must answer as the oracle does on each of N logs, and each of its
 //! mutants must differ somewhere. Fails where one does not.
 
+use differential::Subject;
 use differential::answer::{ASKS, Question};
 use differential::expected::Oracle;
 use differential::minimise::minimised;
 use differential::mutant::{self, Mutant};
-use differential::pairs::Pair;
 use differential::reader::Reader;
-use differential::{log, questions};
 use std::process::exit;
 
 struct Candidate {
@@ -33,13 +32,11 @@ fn stop(seed: u64, index: u64, reader: &Reader, question: &Question) -> ! {
     exit(1);
 }
 
-/// Asks the readers about one log and one pair of logs: how many questions they give.
+/// Asks the readers what is asked under one number: how many questions that is.
 fn ask(seed: u64, index: u64, honest: &Reader, candidates: &mut [Candidate]) -> usize {
-    let (log, mut random) = log(seed, index);
+    let mut subject = Subject::new(seed, index);
     let mut oracle = Oracle::default();
-    let mut pair = Pair::new(seed, index);
-    let mut questions = questions::about(&mut random, &log);
-    questions.extend(pair.questions());
+    let questions = subject.questions();
     for question in &questions {
         let (answer, room) = oracle.answer(question);
         if honest.answer(question, room) != answer {

@@ -19,6 +19,10 @@ mod c {
             kinds: *mut u8, kinds_len: usize, numbers: *mut u64, numbers_len: usize, texts: *mut u8, texts_len: usize,
             out: *mut u8, out_len: usize, line: *const u8, line_len: usize, number: u64,
         ) -> u64;
+        pub fn lulzhemor_read_entities(
+            kinds: *mut u8, kinds_len: usize, numbers: *mut u64, numbers_len: usize, texts: *mut u8, texts_len: usize,
+            sizes: *mut [u64; FRONT], text: *const u8, text_len: usize,
+        ) -> u64;
         pub fn lulzhemor_merge(
             kinds: *mut u8, kinds_len: usize, numbers: *mut u64, numbers_len: usize, texts: *mut u8, texts_len: usize,
             out: *mut u8, out_len: usize, first: *const u8, first_len: usize, second: *const u8, second_len: usize,
@@ -103,7 +107,9 @@ impl Product {
                     )
                 }
             }),
-            Ask::Judge | Ask::Read | Ask::List(_) | Ask::Merge => self.with_tables(question, room),
+            Ask::Judge | Ask::Read | Ask::List(_) | Ask::Merge | Ask::Cells => {
+                self.with_tables(question, room)
+            }
         }
     }
 
@@ -148,8 +154,9 @@ impl Product {
             Ask::Merge if code >= REFUSED => refused_in(code),
             Ask::Merge => self.text_of(code, room),
             _ if code >= REFUSED => refused(code),
+            Ask::Read | Ask::Cells if code == EVENT => self.pack_of(),
+            Ask::Cells => Answer::Broken(format!("answer {code:#x}")),
             _ if code == 0 => Answer::Blank,
-            Ask::Read if code == EVENT => self.pack_of(),
             Ask::Read => Answer::Broken(format!("answer {code:#x}")),
             _ => self.text_of(code, room),
         };
@@ -200,6 +207,9 @@ impl Product {
                 let (out, other, size) = (self.out.as_mut_ptr(), question.other.as_ptr(), question.other.len());
                 unsafe { c::lulzhemor_merge(kinds, k, numbers, n, texts, t, out, room, text, len, other, size) }
             }
+            Ask::Cells => unsafe {
+                c::lulzhemor_read_entities(kinds, k, numbers, n, texts, t, &mut self.sizes, text, len)
+            },
             _ => unsafe { c::lulzhemor_read_line(kinds, k, numbers, n, texts, t, &mut self.sizes, text, len) },
         }
     }

@@ -70,7 +70,7 @@ pub fn about<'a>(random: &mut Random, log: &'a [u8]) -> Vec<Question<'a>> {
 /// Is a table or the output too short for the answer?
 pub fn is_short(question: &Question) -> bool {
     let tables = !question.lent.is_enough();
-    let has_output = !matches!(question.ask, Ask::Judge | Ask::Read);
+    let has_output = !matches!(question.ask, Ask::Judge | Ask::Read | Ask::Cells);
     tables && question.ask.has_tables() || has_output && question.slack < 0
 }
 

@@ -15,7 +15,7 @@ const LINES: u8 = 6;
 const LISTINGS: u8 = 8;
 const MERGES: u8 = 9;
 /// How many ops the groups have, from 1 on.
-const OPS: [u8; 9] = [4, 2, 7, 4, 1, 5, 5, 5, 5];
+const OPS: [u8; 10] = [4, 2, 7, 4, 1, 5, 5, 5, 5, 5];
 
 /// Kinds, numbers, texts; and the output.
 const TABLES: [u8; 3] = [1, 2, 3];

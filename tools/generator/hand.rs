@@ -8,8 +8,8 @@ pub struct Hand {
     lists: BTreeMap<String, Vec<Vec<u8>>>,
 }
 
-const NAMES: [&str; 9] =
-    ["chars", "escapes", "keys", "cuts", "numbers", "values", "lines", "logs", "listings"];
+const NAMES: [&str; 10] =
+    ["chars", "escapes", "keys", "cuts", "numbers", "values", "lines", "logs", "listings", "cells"];
 
 impl Hand {
     pub fn in_folder(folder: &str) -> Hand {

@@ -1,6 +1,8 @@
 //! Writes the vectors: generator HAND_DIR OUT_DIR. The format is said in vectors/README.md.
 
 mod cases;
+mod cells;
+mod cells_grammar;
 mod chars;
 mod control;
 mod cuts;
@@ -27,7 +29,7 @@ use std::process::exit;
 type Maker = fn(&mut Cases, &Hand);
 
 /// Each with its group's number in the program `vectors`, which does not ask the last.
-const FILES: [(&str, u8, Maker); 10] = [
+const FILES: [(&str, u8, Maker); 11] = [
     ("chars", 1, chars::make),
     ("escapes", 4, escapes::make),
     ("cuts", 3, cuts::make),
@@ -37,6 +39,7 @@ const FILES: [(&str, u8, Maker); 10] = [
     ("logs", 7, logs::make),
     ("listings", 8, listings::make),
     ("merges", 9, merges::make),
+    ("cells", 10, cells::make),
     ("nights", 0, nights::make),
 ];
 

@@ -2,7 +2,8 @@
 
 use crate::manual::{block, code, codes, rows};
 use crate::tester::{Case, Tester};
-use oracle::answers;
+use oracle::pack::Pack;
+use oracle::{answers, cells, limits};
 
 /// Each line with its answer: a refusal's number, or lines of its listing.
 fn lines(t: &mut Tester, page: &str) {
@@ -56,5 +57,29 @@ pub fn merges(t: &mut Tester, page: &str) {
         assert_eq!(given, format!("{answer}\n"), "format: {first}");
         let case = Case::merge(t, first.as_bytes(), second.as_bytes());
         t.answered(&format!("format: {answer}"), &case);
+    }
+}
+
+/// The entities of a line with this body of them, as a pack has them.
+fn in_a_line(body: &str) -> Pack {
+    let line = format!("@0 entities({body})::\"\"::k()");
+    let (trimmed, event) = limits::line(line.as_bytes())
+        .expect("a line")
+        .expect("an event");
+    Pack::of_event(trimmed, &event).entities_alone()
+}
+
+/// Entities JSON, where `UID` stands for a uid: a refusal's number, or the body of a line's entities that gives the same.
+pub fn cells(page: &str) {
+    let table = rows(page, "| Entities JSON | Answer |\n");
+    assert!(table.len() > 40);
+    for row in &table {
+        let text = code(&row[0]).expect("code");
+        let text = text.replace("UID", r#"{"type":"A","id":"1"}"#);
+        let given = cells::pack(text.as_bytes()).map(|pack| pack.entities_alone());
+        let expected = row[1]
+            .parse::<u8>()
+            .map_or_else(|_| Ok(in_a_line(&codes(&row[1]).concat())), Err);
+        assert_eq!(given, expected, "format: {text}");
     }
 }

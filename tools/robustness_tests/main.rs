@@ -165,8 +165,10 @@ fn listings(t: &mut Tester, manual: &str, format: &str, stored: &[u8]) {
     manual::values(t, manual);
     manual::refusals(t, manual);
     manual::event(t, manual);
+    manual::cells(manual);
     manual::values(t, format);
     format::listings(t, format);
+    format::cells(format);
     nights::replay(t, stored);
 }
 

@@ -72,7 +72,7 @@ pub fn refusals(t: &mut Tester, manual: &str) {
         .iter()
         .filter_map(|row| Some((&row[0], code(&row[2])?)));
     let examples: Vec<_> = examples.collect();
-    assert!(table.len() == 34 && examples.len() == 24);
+    assert!(table.len() == 36 && examples.len() == 24);
     for (number, example) in examples {
         let start = format!("refused {number} ");
         let refused = |log: &str| answers::night_listing(log.as_bytes()).starts_with(&start);
@@ -105,6 +105,31 @@ pub fn event(t: &mut Tester, manual: &str) {
         pack.starts_with(&format!("nodes 21 texts 24\n{printed}")),
         "manual: the pack"
     );
+}
+
+/// The export, node by node, and the refusals that entities JSON alone meets: where a byte of the example is left out, another is met.
+pub fn cells(manual: &str) {
+    let mut printed = "nodes 26 texts 43\n0 0\n0 0\n0 0\n8 0\n10 0\n10 0\n9 0\n9 0\n".to_string();
+    for row in rows(manual, "| Node | Kind | Number | Of the export |\n") {
+        printed += &format!("{} {}\n", row[1], node_number(&row[2]));
+    }
+    let pack = answers::cells(block(manual, "json").as_bytes());
+    assert!(pack.starts_with(&printed), "manual: the export");
+    for row in rows(manual, "| Remedy |\n") {
+        if row[0] != "36" && row[0] != "37" {
+            continue;
+        }
+        let example = codes(&row[2]).concat();
+        let refused =
+            |text: &str| answers::cells(text.as_bytes()) == format!("refused {}\n", row[0]);
+        let without = |at: usize| format!("{}{}", &example[..at], &example[at + 1..]);
+        assert!(refused(&example), "manual: {}", row[0]);
+        assert!(
+            !(0..example.len()).any(|at| refused(&without(at))),
+            "manual: {}",
+            row[0]
+        );
+    }
 }
 
 /// The example of merging, and the refusals that it alone meets: the lines of their examples are a log, which is merged with an empty one.

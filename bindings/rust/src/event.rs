@@ -135,7 +135,7 @@ pub enum Value<'a> {
     Record(Fields<'a>),
 }
 
-/// An entry of an event's entities.
+/// An entry of an event's entities, or of entities JSON.
 #[derive(Debug, Clone)]
 pub struct Entry<'a> {
     /// The stored key: equal for two entries exactly when their types and decoded ids are.
@@ -156,7 +156,7 @@ pub struct Items<'a>(Parts<'a>);
 #[derive(Clone)]
 pub struct Fields<'a>(Parts<'a>);
 
-/// The entries of an event's entities, in written order.
+/// The entries of an event's entities or of entities JSON, in written order.
 #[derive(Clone)]
 pub struct Entities<'a>(Parts<'a>);
 

@@ -43,6 +43,17 @@ mod c {
             line: *const u8,
             line_len: usize,
         ) -> u64;
+        pub fn lulzhemor_read_entities(
+            kinds: *mut u8,
+            kinds_len: usize,
+            numbers: *mut u64,
+            numbers_len: usize,
+            texts: *mut u8,
+            texts_len: usize,
+            sizes: *mut [u64; FRONT],
+            text: *const u8,
+            text_len: usize,
+        ) -> u64;
         pub fn lulzhemor_list_line(
             kinds: *mut u8,
             kinds_len: usize,
@@ -149,6 +160,28 @@ pub fn read_line(
     }
 }
 
+pub fn read_entities(
+    kinds: &mut [u8],
+    numbers: &mut [u64],
+    texts: &mut [u8],
+    sizes: &mut [u64; FRONT],
+    text: &[u8],
+) -> u64 {
+    unsafe {
+        c::lulzhemor_read_entities(
+            kinds.as_mut_ptr(),
+            kinds.len(),
+            numbers.as_mut_ptr(),
+            numbers.len(),
+            texts.as_mut_ptr(),
+            texts.len(),
+            sizes,
+            text.as_ptr(),
+            text.len(),
+        )
+    }
+}
+
 pub fn list_line(
     kinds: &mut [u8],
     numbers: &mut [u64],
@@ -197,25 +230,122 @@ pub fn spell_key(out: &mut [u8], ty: &[u8], id: &[u8]) -> u64 {
 
 #[cfg(test)]
 mod tests {
-    use super::{FRONT, read_line};
+    use super::{FRONT, read_entities, read_line};
 
-    const OLD: [u64; FRONT] = [77; FRONT];
+    const OLD: u8 = 77;
+    const REFUSED: u64 = 1 << 32;
+
+    /// Tables of so many nodes and text bytes, full of what stood there before.
+    struct Lent {
+        kinds: Vec<u8>,
+        numbers: Vec<u64>,
+        texts: Vec<u8>,
+        sizes: [u64; FRONT],
+    }
+
+    impl Lent {
+        fn new(kinds: usize, numbers: usize, texts: usize) -> Lent {
+            Lent {
+                kinds: vec![OLD; kinds],
+                numbers: vec![OLD.into(); numbers],
+                texts: vec![OLD; texts],
+                sizes: [OLD.into(); FRONT],
+            }
+        }
+
+        fn entities(&mut self, text: &[u8]) -> u64 {
+            read_entities(
+                &mut self.kinds,
+                &mut self.numbers,
+                &mut self.texts,
+                &mut self.sizes,
+                text,
+            )
+        }
+
+        fn line(&mut self, line: &[u8]) -> u64 {
+            read_line(
+                &mut self.kinds,
+                &mut self.numbers,
+                &mut self.texts,
+                &mut self.sizes,
+                line,
+            )
+        }
+
+        /// From so many nodes and text bytes on each entry is this one.
+        fn is_behind(&self, nodes: usize, bytes: usize, entry: u8) -> bool {
+            self.kinds[nodes..].iter().all(|kind| *kind == entry)
+                && self.numbers[nodes..].iter().all(|n| *n == entry.into())
+                && self.texts[bytes..].iter().all(|byte| *byte == entry)
+        }
+    }
+
+    fn lent() -> Lent {
+        Lent::new(8_192, 8_192, 32_768)
+    }
 
     /// The answer of a line, and the sizes that it leaves.
     fn read(nodes: usize, line: &[u8]) -> (u64, [u64; FRONT]) {
-        let (mut kinds, mut texts) = (vec![0; nodes], vec![0; 32_768]);
-        let (mut numbers, mut sizes) = (vec![0; nodes], OLD);
-        let answer = read_line(&mut kinds, &mut numbers, &mut texts, &mut sizes, line);
-        (answer, sizes)
+        let mut lent = Lent::new(nodes, nodes, 32_768);
+        (lent.line(line), lent.sizes)
     }
 
     #[test]
     fn only_an_event_writes_the_sizes() {
         let event = br#"@40 Dig::"go"::ask(m: 1)"#;
+        let old = [OLD.into(); FRONT];
         assert_eq!(read(8_192, event), (1, [12, 9]));
-        assert_eq!(read(8_192, b" \r\n"), (0, OLD));
-        assert_eq!(read(8_192, b"@0 )("), ((1 << 32) + 18, OLD));
-        assert_eq!(read(8_191, event), ((1 << 32) + 1, OLD));
+        assert_eq!(read(8_192, b" \r\n"), (0, old));
+        assert_eq!(read(8_192, b"@0 )("), (REFUSED + 18, old));
+        assert_eq!(read(8_191, event), (REFUSED + 1, old));
+    }
+
+    #[test]
+    fn entities_are_a_pack_and_zeros() {
+        let mut lent = lent();
+        assert_eq!(lent.entities(b"[]"), 1);
+        assert_eq!(lent.sizes, [9, 0]);
+        assert_eq!(lent.kinds[..9], [0, 0, 0, 8, 10, 10, 9, 9, 9]);
+        assert!(lent.numbers[..9].iter().all(|number| *number == 0));
+        assert!(lent.is_behind(9, 0, 0));
+        let one = br#"[{"parents":[],"attrs":{"n":-1},"uid":{"id":"b","type":"A"}}]"#;
+        assert_eq!(lent.entities(one), 1);
+        assert_eq!(lent.sizes, [14, 7]);
+        assert_eq!(lent.kinds[8..14], [9, 10, 9, 10, 4, 8]);
+        assert_eq!(lent.numbers[8..14], [1, 6, 1, 6 << 32 | 1, u64::MAX, 0]);
+        assert_eq!(&lent.texts[..7], br#"A::"b"n"#);
+        assert!(lent.is_behind(14, 7, 0));
+    }
+
+    /// After any refusal but 1 the tables are zeros; 1 changes nothing, and no refusal changes the sizes.
+    #[test]
+    fn refused_entities_leave_zeros_and_the_sizes() {
+        let two = br#"[{"uid":{"type":"A","id":"b"},"attrs":{},"parents":[]},{"uid":{"type":"A","id":"\u0062"},"attrs":{},"parents":[]}]"#;
+        let (long, longer) = (vec![b' '; 4_097], vec![b' '; 65_537]);
+        for (number, text) in [
+            (2, longer.as_slice()),
+            (3, b"\xff"),
+            (4, &long),
+            (34, two),
+            (36, b"[nul]"),
+            (37, b"[null]"),
+        ] {
+            let mut lent = lent();
+            assert_eq!(lent.entities(text), REFUSED + number);
+            assert!(lent.is_behind(0, 0, 0), "{number}");
+            assert_eq!(lent.sizes, [OLD.into(); FRONT], "{number}");
+        }
+        for [kinds, numbers, texts] in [
+            [8_191, 8_192, 32_768],
+            [8_192, 8_191, 32_768],
+            [8_192, 8_192, 32_767],
+        ] {
+            let mut lent = Lent::new(kinds, numbers, texts);
+            assert_eq!(lent.entities(b"\xff"), REFUSED + 1);
+            assert!(lent.is_behind(0, 0, OLD));
+            assert_eq!(lent.sizes, [OLD.into(); FRONT]);
+        }
     }
 
     #[test]

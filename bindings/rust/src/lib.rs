@@ -1,5 +1,6 @@
-//! Reads the `.log` format of the policy engine Dogwood. The work is done by functions that are proved to return, to stay inside what
-//! they are lent and to answer what their definitions say, on every input; this crate lends them slices and takes their answers apart.
+//! Reads the `.log` format of the policy engine Dogwood, and Cedar's entities JSON. The work is done by functions that are proved to return, to
+//! stay inside what they are lent and to answer what their definitions say, on every input; this crate lends them slices and takes their answers
+//! apart.
 //!
 //! ```
 //! let mut tables = lulzhemor::Tables::new();
@@ -25,6 +26,8 @@ pub use refusal::{MergeRefusal, Refusal, RefusedLine};
 pub const TEXT_LIMIT: usize = 65_536;
 /// A trimmed line, a body, an id or a type, in bytes: [`Refusal::LINE_TOO_LONG`] above this.
 pub const LINE_LIMIT: usize = 4_096;
+/// Entities JSON, in bytes, nothing trimmed: [`Refusal::LINE_TOO_LONG`] above this.
+pub const JSON_LIMIT: usize = 4_096;
 /// An output of so many bytes holds every listing of [`Tables::list_line`]: [`Refusal::OUTPUT_TOO_SHORT`] is not met. No event lists in more
 /// than seven bytes for each byte of its trimmed line, and one, which is proved.
 pub const LISTING_ROOM: usize = 28_673;
@@ -114,12 +117,35 @@ impl Tables {
         if answer(ffi::read_line(kinds, numbers, texts, &mut sizes, line))? != EVENT {
             return Ok(None);
         }
+        Ok(Some(self.pack(sizes)))
+    }
+
+    /// Reads Cedar's entities JSON: an array of objects with `uid`, `attrs` and `parents`. Its entries are seen as those of an event are, and an
+    /// entity has the stored key that a line gives it.
+    ///
+    /// ```
+    /// let mut tables = lulzhemor::Tables::new();
+    /// let export = r#"[{"uid": {"type": "Cell", "id": "K'7"}, "attrs": {"dug": true}, "parents": []}]"#;
+    /// let entry = tables.read_entities(export.as_bytes())?.next().expect("an entry");
+    /// assert_eq!(entry.key, r#"Cell::"K\'7""#);
+    /// assert!(matches!(entry.record.get("dug"), Some(lulzhemor::Value::Bool(true))));
+    /// # Ok::<(), lulzhemor::Refusal>(())
+    /// ```
+    pub fn read_entities(&mut self, text: &[u8]) -> Result<Entities<'_>, Refusal> {
+        let mut sizes = [0; ffi::FRONT];
+        let (kinds, numbers, texts) = (&mut self.kinds, &mut self.numbers, &mut self.texts);
+        answer(ffi::read_entities(kinds, numbers, texts, &mut sizes, text))?;
+        Ok(self.pack(sizes).entities())
+    }
+
+    /// The pack of these sizes that a call left.
+    fn pack(&self, sizes: [u64; ffi::FRONT]) -> Event<'_> {
         let [nodes, bytes] = sizes.map(|size| size as usize);
-        Ok(Some(Event::new(
+        Event::new(
             &self.kinds[..nodes],
             &self.numbers[..nodes],
             &self.texts[..bytes],
-        )))
+        )
     }
 
     /// Writes the night listing of one line's event, which has this number; `None` where the line is blank.

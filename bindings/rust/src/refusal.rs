@@ -43,7 +43,7 @@ refusals! {
     TABLE_TOO_SHORT = 1, "a pack table is too short";
     TEXT_TOO_LONG = 2, "the text has over 65,536 bytes";
     NOT_UTF8 = 3, "the text is not UTF-8";
-    LINE_TOO_LONG = 4, "a trimmed line (or a body, id or type) has over 4,096 bytes";
+    LINE_TOO_LONG = 4, "a trimmed line (or a body, id, type or entities JSON) has over 4,096 bytes";
     OUTPUT_TOO_SHORT = 5, "the output is too short for the answer";
     NO_AT = 10, "the line does not begin with @";
     NO_SPACE_AFTER_TIME = 11, "no whitespace behind the time";
@@ -71,6 +71,8 @@ refusals! {
     KEY_NO_ENTITY = 33, "an entry's key is no entity";
     DUPLICATE_KEY = 34, "two entries have one key";
     ENTRY_NOT_A_RECORD = 35, "an entry's value is no record";
+    NOT_JSON = 36, "the text is no JSON, or has a lone surrogate";
+    NOT_ENTITIES = 37, "the JSON does not have the shape of entities, or a type begins with whitespace";
     TIMES_FALL_IN_FIRST = 45, "the first log's times fall";
     TIMES_FALL_IN_SECOND = 46, "the second log's times fall";
     MERGED_TOO_LONG = 47, "the merged log has over 65,536 bytes";

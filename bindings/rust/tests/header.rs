@@ -30,9 +30,9 @@ fn refusals() -> BTreeMap<u8, String> {
 #[test]
 fn each_refusal_has_the_text_of_the_header() {
     let texts = refusals();
-    assert_eq!(texts.len(), 34);
+    assert_eq!(texts.len(), 36);
     for number in 0..=255 {
-        let known = [1..=5, 10..=35, 45..=47]
+        let known = [1..=5, 10..=37, 45..=47]
             .iter()
             .any(|numbers| numbers.contains(&number));
         let text = texts.get(&number).map(String::as_str);
@@ -51,6 +51,7 @@ fn the_bounds_are_those_of_the_header() {
     for (name, bound) in [
         ("TEXT_LIMIT", lulzhemor::TEXT_LIMIT),
         ("LINE_LIMIT", lulzhemor::LINE_LIMIT),
+        ("JSON_LIMIT", lulzhemor::JSON_LIMIT),
         ("LISTING_ROOM", lulzhemor::LISTING_ROOM),
     ] {
         let row = format!("#define LULZHEMOR_{name} {bound}\n");
@@ -96,5 +97,5 @@ fn the_manual_has_every_signature() {
     let mut declared = declared();
     declared.sort();
     assert_eq!(listed, declared);
-    assert_eq!(listed.len(), 8);
+    assert_eq!(listed.len(), 9);
 }

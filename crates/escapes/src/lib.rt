@@ -22,7 +22,7 @@ pub enum Escape {
 
 // The value of the hex digit at i.
 #[tactic(auto, unfolding(crate::specs::Unescape::hex_digit))]
-fn hex_at(s: &[u8], i: usize) -> Option<u32>
+pub fn hex_at(s: &[u8], i: usize) -> Option<u32>
     ensures value { result ≡ hex_digit (get_or s.now i 0) }
     ensures upper_bound { IfSome result (λ v. v < 16) }
 {

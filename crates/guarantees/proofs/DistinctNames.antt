@@ -1,4 +1,4 @@
--- Names stand once: in every record of what is accepted, and among an event's stored keys.
+-- Names stand once: in every record of what is accepted, and among the stored keys of a line and of entities JSON.
 -- Assumes nothing.
 use mathlib.Core.Path.{◌≡◌}
 use mathlib.Core.List.{List}
@@ -7,13 +7,18 @@ use Rattle.format.specs.Limits.{levels}
 use Rattle.format.specs.Outcome.{ok}
 use Rattle.pack.specs.Value.{Value, Fields, fields}
 use Rattle.values.specs.Parse.{parse}
+use Rattle.entities.specs.Entries.{Entries, stored_keys}
 use Rattle.events.specs.Event.{Event}
 use Rattle.events.specs.Line.{parse_args}
 use Rattle.events.specs.Answer.{event, read_line}
-use Rattle.events.specs.Distinct.{DistinctNames, DistinctEvent}
+use Rattle.events.specs.Distinct.{DistinctTexts, DistinctNames, DistinctInEntries, DistinctEvent}
 use Rattle.events.proofs.OutcomeLaws.{given_ok}
 use Rattle.events.proofs.ValueOutcomes.{value_refusals, argument_refusals, value_gives, arguments_give}
+use Rattle.events.proofs.EntityOutcomes.{DistinctEntries}
 use Rattle.events.proofs.LineOutcomes.{read_distinct}
+use Rattle.json_entities.specs.Entry.{read_entities}
+use Rattle.guarantees.specs.RefusalTable.{read_entities_rows}
+use Rattle.guarantees.proofs.JsonOutcomes.{read_entities_in}
 
 -- 1. A text that is read as a value: every record in it, however deep, has distinct names.
 pub value_distinct : (s : List ℕ) {v : Value} → parse levels s ≡ ok v → DistinctNames v
@@ -27,3 +32,7 @@ group_distinct s {fs} h = given_ok (λ (gs : Fields). DistinctNames (fields gs))
 -- records of its entries; and its stored keys are distinct.
 pub event_distinct : (s : List ℕ) {e : Event} → read_line s ≡ event e → DistinctEvent e
 event_distinct s {e} h = read_distinct s e h
+
+-- 4. A text of entities JSON that is read: so have the records of its entries and every record in them; and its stored keys are distinct.
+pub json_distinct : (s : List ℕ) {es : Entries} → read_entities s ≡ ok es → DistinctTexts (stored_keys es) × DistinctInEntries es
+json_distinct s {es} h = given_ok DistinctEntries read_entities_rows (read_entities s) es (read_entities_in s) h

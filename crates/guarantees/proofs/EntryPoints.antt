@@ -19,6 +19,10 @@ use Rattle.lines.specs.Entry.{LineWhole}
 use Rattle.lines.specs.contracts.read_line
 use Rattle.lines.proofs.read_line.Met as ReadLine
 use Rattle.lines.proofs.read_line.Symbol as ReadLineCode
+use Rattle.json_entities.specs.Entry.{EntitiesWhole}
+use Rattle.json_entities.specs.contracts.read_entities
+use Rattle.json_entities.proofs.read_entities.Met as ReadEntities
+use Rattle.json_entities.proofs.read_entities.Symbol as ReadEntitiesCode
 use Rattle.logs.specs.Judge as Judge
 use Rattle.logs.specs.contracts.judge
 use Rattle.logs.proofs.judge.Met as JudgeLog
@@ -65,21 +69,26 @@ pub judge_promised : {M : Type 1} → Promised judge.ended JudgeCode.code JudgeC
     Judge.JudgeWhole a.1.1.1.0.now a.0.now a.1.0.now a.1.1.0.now r s.0.now s.1.0.now s.1.1.0.now)
 judge_promised = JudgeLog.met
 
--- 6. List one line's event: `list_line(kinds, numbers, texts, out, line, number)`. The same, with `ListWhole`, which gives every
+-- 6. Read cells from entities JSON: `read_entities(kinds, numbers, texts, text)`. The same, with `EntitiesWhole`.
+pub read_entities_promised : {M : Type 1} → Promised read_entities.ended ReadEntitiesCode.code ReadEntitiesCode.name M (λ κs a r s.
+    EntitiesWhole a.1.1.1.0.now a.0.now a.1.0.now a.1.1.0.now r s.0.now s.1.0.now s.1.1.0.now)
+read_entities_promised = ReadEntities.met
+
+-- 7. List one line's event: `list_line(kinds, numbers, texts, out, line, number)`. The same, with `ListWhole`, which gives every
 -- byte of the output too.
 pub list_line_promised : {M : Type 1} → Promised list_line.ended ListLineCode.code ListLineCode.name M (λ κs a r s.
     Listing.ListWhole a.1.1.1.1.0.now a.1.1.1.1.1.0 a.0.now a.1.0.now a.1.1.0.now a.1.1.1.0.now r
     s.0.now s.1.0.now s.1.1.0.now s.1.1.1.0.now)
 list_line_promised = ListLine.met
 
--- 7. The next stretch of a log's night listing, which the program calls: `next_stretch(work, out, log, place)`. `StretchWhole` gives the
+-- 8. The next stretch of a log's night listing, which the program calls: `next_stretch(work, out, log, place)`. `StretchWhole` gives the
 -- answer, and every byte of the output; `Onward` what a loop over the calls needs.
 pub next_stretch_promised : {M : Type 1} → PromisedBoth next_stretch.ended NextStretchCode.code NextStretchCode.name M
     (λ κs a r s. StretchWhole (stretch_at a.1.1.0.now a.1.1.1.0) a.1.0.now r s.1.0.now)
     (λ κs a r s. Onward a.1.1.0.now a.1.1.1.0 r s.1.0.now)
 next_stretch_promised = NextStretch.met
 
--- 8. Merge two logs: `merge(kinds, numbers, texts, out, first, second)`. `MergeWhole` gives the answer, every entry of the three
+-- 9. Merge two logs: `merge(kinds, numbers, texts, out, first, second)`. `MergeWhole` gives the answer, every entry of the three
 -- tables and every byte of the output.
 pub merge_promised : {M : Type 1} → Promised merge.ended MergeCode.code MergeCode.name M (λ κs a r s.
     Merge.MergeWhole a.1.1.1.1.0.now a.1.1.1.1.1.0.now a.0.now a.1.0.now a.1.1.0.now a.1.1.1.0.now r

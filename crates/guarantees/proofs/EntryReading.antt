@@ -74,7 +74,7 @@ only_key_entity (ok (array vs)) k e = absurd (never e)
 only_key_entity (ok (fields fs)) k e = absurd (never e)
 
 module _ (before : List (List ℕ)) (en : Entry) where
-  unless_stored_same : (e : Entry) → unless_stored before e ≡ ok en → e ≡ en
+  pub unless_stored_same : (e : Entry) → unless_stored before e ≡ ok en → e ≡ en
   unless_stored_same e h =
       by_cond (λ (o : Outcome Entry). o ≡ ok en → e ≡ en) (among (entity_uid pinned e.key.type e.key.id) before) (Outcome.refused duplicate_key) (ok e)
       (λ _ h. absurd (never h)) (λ _ h. same_answer h) h

@@ -1,4 +1,5 @@
--- Values laid behind a pack one after the other: what stands there, and that walking past them leads behind them, whatever lies there.
+-- Values laid behind a pack one after the other: what stands there, and that walking past them leads behind them, whatever lies there. So of all that
+-- stands before the entities node, in the pack of an event and in one of entities JSON.
 -- Assumes nothing.
 use mathlib.Core.Path.{◌≡◌, refl, sym, ap, ◌∙◌}
 use mathlib.Core.List.{List, [], ◌∷◌, ◌++◌, append_assoc, append-nil}
@@ -6,9 +7,9 @@ use Prim.Native.Nat.{ℕ, zero, suc, ◌+◌}
 use native.Mathlib.Nat.{zero-add, add_assoc}
 use native.Mathlib.Omega.{arith}
 use lib.ListN.{length, drop, length-append}
-use Rattle.format.specs.Kinds.{absent_kind, integer_kind, array_kind, text_kind}
-use Rattle.pack.specs.Value.{Value, integer, fields}
-use Rattle.pack.specs.Pack.{Pack, node, append_text, append_value, text_number}
+use Rattle.format.specs.Kinds.{absent_kind, integer_kind, array_kind, record_kind, text_kind}
+use Rattle.pack.specs.Value.{Value, integer, array, no_item, count_items, fields, no_field, count_fields}
+use Rattle.pack.specs.Pack.{Pack, empty_pack, node, append_text, append_value, text_number}
 use Rattle.pack.specs.Closed.{kinds_of, texts_of, numbers_of}
 use Rattle.pack.specs.Walk.{children, past_at}
 use Rattle.pack.proofs.Appended.{pack_is}
@@ -17,6 +18,7 @@ use Rattle.pack.proofs.Laid.{past_value, past_leaf, behind}
 use Rattle.heads.specs.Head.{Head, count_texts, append_namespace, append_head}
 use Rattle.heads.proofs.Texts.{kinds_texts, numbers_texts, joined_texts, namespace_closed, kinds_length, numbers_length, past_texts}
 use Rattle.events.specs.Event.{Event, append_if}
+use Rattle.json_entities.specs.Entry as Json
 use Rattle.std.specs.Prelude.{None, Option, Some}
 
 -- the node behind n values
@@ -121,3 +123,18 @@ pub parts_laid : (e : Event) (p : Pack) → Laid 8 p (before_entities e p)
 parts_laid e p =
     laid_then (laid_then (laid_then (laid_then (laid_then (time_laid e.time p) (option_laid e.principal _)) (option_laid e.resource _)) (head_laid e.head _))
     (value_laid (fields e.logged) _)) (value_laid (fields e.context) _)
+
+-- ---- a pack of entities JSON, all but its entities
+
+no_items_laid : (p : Pack) → Laid 1 p (node array_kind 0 p)
+unfolding append_value count_items
+no_items_laid p = value_laid (array no_item) p
+
+no_fields_laid : (p : Pack) → Laid 1 p (node record_kind 0 p)
+unfolding append_value count_fields
+no_fields_laid p = value_laid (fields no_field) p
+
+pub json_parts_laid : Laid 8 empty_pack Json.before_entities
+json_parts_laid =
+    laid_then (laid_then (laid_then (laid_then (laid_then (laid_then (laid_then (absent_laid empty_pack) (absent_laid _)) (absent_laid _)) (no_items_laid _)) (text_walked [] _)) (text_walked [] _))
+    (no_fields_laid _)) (no_fields_laid _)

@@ -4,6 +4,7 @@ pub mod Agreement
 pub mod DistinctNames
 pub mod StoredKeys
 pub mod PackKeys
+pub mod SameEntities
 pub mod NightListing
 pub mod Listings
 pub mod Merging
@@ -15,12 +16,15 @@ mod MapRange
 mod Listed
 mod Consequence
 mod RefusalLaws
+mod JsonOutcomes
+mod JsonReading
 mod LineTexts
 mod Walked
 mod Judged
 mod Left
 mod Laying
 mod Standing
+mod NodesCounted
 mod EntryReading
 mod Stretched
 mod MergeOrder
@@ -30,5 +34,6 @@ mod LaidLines
 mod MergedLogs
 mod Facts
 mod Examples
+mod JsonExamples
 mod MergeExamples
 mod MapExamples

@@ -20,8 +20,12 @@ use Rattle.keys.specs.Escape.{pinned, entity_uid}
 use Rattle.pack.specs.Pack.{Pack}
 use Rattle.events.specs.Answer.{Answer, event, blank, refused, read_line}
 use Rattle.events.proofs.OutcomeLaws.{is_in, all_in, in_all, is_member}
+use Rattle.events.proofs.EntityOutcomes.{DistinctEntries}
 use Rattle.events.proofs.LineOutcomes.{read_refusals, read_refused}
 use Rattle.lines.specs.Entry.{line_read_of, enough}
+use Rattle.json_entities.specs.Entry.{sizes_or, read_entities}
+use Rattle.entities.specs.Entries.{Entries}
+use Rattle.format.specs.Outcome.{Outcome, ok}
 use Rattle.logs.specs.Judge.{of_text, judge_log}
 use Rattle.logs.specs.Judge as Judge
 use Rattle.listing.specs.Lines.{list_event}
@@ -31,9 +35,10 @@ use Rattle.event_lines.specs.Time.{fall_in}
 use Rattle.merging.specs.Merge.{merged_text, unless_refused, unless_falls, merge_logs}
 use Rattle.merging.specs.Merge as Merge
 use Rattle.guarantees.specs.Lines.{log_lines, line_numbered}
-use Rattle.guarantees.specs.Calls.{ReadInto}
-use Rattle.guarantees.specs.RefusalTable.{OneOf, refusal_table, decode_rows, spell_key_rows, cut_body_rows, read_line_rows, judge_rows, list_line_rows, merge_rows, RowsOfTheTable}
+use Rattle.guarantees.specs.Calls.{ReadInto, EntitiesInto}
+use Rattle.guarantees.specs.RefusalTable.{OneOf, refusal_table, decode_rows, spell_key_rows, cut_body_rows, read_line_rows, read_entities_rows, judge_rows, list_line_rows, merge_rows, RowsOfTheTable}
 use Rattle.guarantees.proofs.Agreement.{refused_iff}
+use Rattle.guarantees.proofs.JsonOutcomes.{OrRow, read_entities_in}
 use Rattle.std.specs.Prelude.{Err, None, Ok, Option, Result, Some}
 use Rattle.format.specs.declared.Reach.{Reach}
 use Rattle.logs.specs.declared.LineRefusal.{LineRefusal}
@@ -105,6 +110,23 @@ pub read_line_refusals : {s : List ℕ} {p q : Pack} {n : Refusal} → ReadInto 
 unfolding is_in all_in
 read_line_refusals {s} {p} {q} {n} w = is_member n read_line_rows (subst LineIn (sym w.answer)
     (both_arms LineIn (enough p.kinds p.numbers p.texts) (answer_in (read_line s) (read_in read_line_rows refl s)) refl))
+
+-- ---- entities JSON
+
+abbrev EntitiesIn : Result Reach Refusal → Type 0
+EntitiesIn (Ok f) = Unit {0}
+EntitiesIn (Err n) = is_in n read_entities_rows ≡ true
+
+sizes_in : (o : Outcome Entries) → OrRow DistinctEntries o → EntitiesIn (sizes_or o)
+sizes_in (ok es) h = tt
+sizes_in (Outcome.refused n) h = h
+
+pub read_entities_refusals : {s : List ℕ} {p q : Pack} {n : Refusal} → EntitiesInto s p (Err n) q → OneOf read_entities_rows n
+unfolding is_in
+read_entities_refusals {s} {p} {q} {n} w = is_member n read_entities_rows (subst EntitiesIn (sym w.answer)
+    (both_arms EntitiesIn (enough p.kinds p.numbers p.texts) (sizes_in (read_entities s) (read_entities_in s)) refl))
+
+-- ---- a listing
 
 abbrev ListedIn : Result (Option ℕ) Refusal → Type 0
 ListedIn (Ok (Some n)) = Unit {0}
@@ -186,8 +208,8 @@ is_one_of n (x ∷ xs) (Memᴰ.tail m) = or_right (eqb (number n) (number x)) (i
 rows : (ns : List Refusal) → all_in ns refusal_table ≡ true → RowsOfTheTable ns
 rows ns w n m = is_member n refusal_table (in_all n ns refusal_table w (is_one_of n ns m))
 
-pub in_the_table : RowsOfTheTable decode_rows × RowsOfTheTable spell_key_rows × RowsOfTheTable cut_body_rows × RowsOfTheTable read_line_rows × RowsOfTheTable judge_rows
-    × RowsOfTheTable list_line_rows × RowsOfTheTable merge_rows
+pub in_the_table : RowsOfTheTable decode_rows × RowsOfTheTable spell_key_rows × RowsOfTheTable cut_body_rows × RowsOfTheTable read_line_rows × RowsOfTheTable read_entities_rows
+    × RowsOfTheTable judge_rows × RowsOfTheTable list_line_rows × RowsOfTheTable merge_rows
 unfolding is_in all_in
 in_the_table =
-    (rows decode_rows refl, rows spell_key_rows refl, rows cut_body_rows refl, rows read_line_rows refl, rows judge_rows refl, rows list_line_rows refl, rows merge_rows refl)
+    (rows decode_rows refl, rows spell_key_rows refl, rows cut_body_rows refl, rows read_line_rows refl, rows read_entities_rows refl, rows judge_rows refl, rows list_line_rows refl, rows merge_rows refl)

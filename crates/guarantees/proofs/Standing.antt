@@ -7,6 +7,7 @@ use native.Mathlib.Omega.{arith}
 use lib.ListN.{length, drop, get_or, replicate, length-append}
 use lib.Seq.{drop_at, get_or_at}
 use Rattle.format.specs.Kinds.{record_kind}
+use Rattle.format.specs.declared.Reach.{Reach}
 use Rattle.pack.specs.Pack.{Pack, empty_pack, node}
 use Rattle.pack.specs.Padded.{padded}
 use Rattle.pack.proofs.Appended.{pack_is}
@@ -15,14 +16,14 @@ use Rattle.pack.proofs.Laid.{element}
 use Rattle.entities.specs.Entries.{Entries, count_entries, stored_keys, append_entities}
 use Rattle.entities.specs.Closed.{kinds_entries, texts_entries, numbers_entries}
 use Rattle.entities.proofs.Laid.{append_entries_closed, keys_laid}
-use Rattle.events.specs.Event.{Event, append_event}
-use Rattle.guarantees.specs.Keys.{followed_by, tables_of, keys_in}
-use Rattle.guarantees.proofs.Laying.{past_all, Laid, before_entities, parts_laid}
+use Rattle.lines.specs.Entry.{sizes_of}
+use Rattle.guarantees.specs.Keys.{followed_by, keys_in}
+use Rattle.guarantees.proofs.Laying.{past_all, Laid}
 use Rattle.pack.specs.EventParts.{entities_at}
 
 -- ---- the entities node is the ninth
 
-entities_closed : (es : Entries) (p : Pack)
+pub entities_closed : (es : Entries) (p : Pack)
     → append_entities es p ≡ joined p (record_kind ∷ kinds_entries es) (count_entries es ∷ numbers_entries es (length p.texts)) (texts_entries es)
 entities_closed es p = append_entries_closed es (node record_kind (count_entries es) p) ∙ pack_is _ _ (append_assoc p.kinds _ _) (append_assoc p.numbers _ _) refl
 
@@ -52,18 +53,25 @@ entities_stand es p rest o l =
     let t = ap (λ (q : Pack). length q.texts) c ∙ length-append p.texts (texts_entries es) in
     ap (λ (q : Pack). keys_in (followed_by q rest)) c ∙ keys_ninth es p rest o (omega arith)
 
+-- ---- in tables that a call left
+
+-- tables that begin with a pack of the sizes f: eight values, and then the entities node with the entries es
+pub record EntitiesStand (f : Reach) (q : Pack) (es : Entries) : Type 0 where
+  pub before : Pack
+  pub laid : Laid 8 empty_pack before
+  pub rest : Pack
+  pub is : q ≡ followed_by (append_entities es before) rest
+  pub sizes : f ≡ sizes_of (append_entities es before)
+  pub short : length (append_entities es before).texts < 2 ^ 32
+
+pub keys_stand : {f : Reach} {q : Pack} {es : Entries} → EntitiesStand f q es → keys_in q ≡ stored_keys es
+keys_stand {es = es} o = rw o.is (entities_stand es o.before o.rest o.laid o.short)
+
 -- zeros behind what was written, and then r
 padded_behind : (n : ℕ) (l r : List ℕ) → padded n l ++ r ≡ l ++ (replicate (n - length l) 0 ++ r)
 unfolding padded
 padded_behind n l r = append_assoc l (replicate (n - length l) 0) r
 
-pub tables_padded : (n m : ℕ) (e : Event) (past : Pack)
-    → (rest : Pack) × (record {
-      kinds = padded n (append_event e empty_pack).kinds ++ past.kinds;
-      numbers = padded n (append_event e empty_pack).numbers ++ past.numbers;
-      texts = padded m (append_event e empty_pack).texts ++ past.texts;
-    } ≡ tables_of e rest)
-tables_padded n m e past = (_, pack_is _ _ (padded_behind n (append_event e empty_pack).kinds past.kinds) (padded_behind n (append_event e empty_pack).numbers past.numbers) (padded_behind m (append_event e empty_pack).texts past.texts))
-
-pub keys_stand : (e : Event) (rest : Pack) → length (append_event e empty_pack).texts < 2 ^ 32 → keys_in (tables_of e rest) ≡ stored_keys e.entities
-keys_stand e rest l = entities_stand e.entities (before_entities e empty_pack) rest (parts_laid e empty_pack) l
+pub tables_padded : (n m : ℕ) (p past : Pack)
+    → (rest : Pack) × (record { kinds = padded n p.kinds ++ past.kinds; numbers = padded n p.numbers ++ past.numbers; texts = padded m p.texts ++ past.texts } ≡ followed_by p rest)
+tables_padded n m p past = (_, pack_is _ _ (padded_behind n p.kinds past.kinds) (padded_behind n p.numbers past.numbers) (padded_behind m p.texts past.texts))

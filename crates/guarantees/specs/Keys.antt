@@ -52,7 +52,7 @@ abbrev pub entry_id : ℕ → Entries → List ℕ
 entry_id i es = (entry_at i es).id
 
 -- Tables that hold accepted entries, whichever call left them: walking over the tables finds the stored keys of these entries, in written
--- order. No type text begins with White_Space, since a text is trimmed before it is read as an entity.
+-- order. No type text begins with White_Space: of a line, since a text is trimmed before it is read as an entity; of JSON, where it is 37.
 pub record Holds (q : Pack) (es : Entries) : Type 0 where
   pub keys : keys_in q ≡ stored_keys es
   pub types : (i : ℕ) → i < count_entries es → white_at (entry_type i es) ≡ 0

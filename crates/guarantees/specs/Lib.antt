@@ -1,6 +1,8 @@
 pub mod Keys
 pub mod Lines
 pub mod Calls
+pub mod EntityNodes
+pub mod Given
 pub mod RefusalTable
 pub mod ProofSet
 pub mod Promised

@@ -10,7 +10,8 @@ use Rattle.logs.specs.Judge as Logs
 use Rattle.merging.specs.Merge as Merging
 use Rattle.merging.specs.Merge.{merge_answer}
 use Rattle.listing.specs.Entry as Listing
-use Rattle.lulzhemor.specs.Answer.{counted_answer, of_read, sizes_after, read_answer, of_judged, judge_answer, of_merged, of_listed, line_listed}
+use Rattle.json_entities.specs.Entry as Cells
+use Rattle.lulzhemor.specs.Answer.{counted_answer, of_read, sizes_after, read_answer, of_entities, entities_sizes_after, entities_answer, of_judged, judge_answer, of_merged, of_listed, line_listed}
 
 pub record CutCall (body out : List ℕ) (r : ℕ) (out' : List ℕ) : Type 0 where
   pub answer : r ≡ counted_answer (cut_body body (length out))
@@ -30,6 +31,11 @@ pub record ReadCall (line k n t sizes : List ℕ) (r : ℕ) (k' n' t' sizes' : L
   pub answer : r ≡ of_read (read_answer line k n t)
   pub tables : Lines.LineWhole line k n t (read_answer line k n t) k' n' t'
   pub written : sizes' ≡ sizes_after (read_answer line k n t) sizes
+
+pub record EntitiesCall (text k n t sizes : List ℕ) (r : ℕ) (k' n' t' sizes' : List ℕ) : Type 0 where
+  pub answer : r ≡ of_entities (entities_answer text k n t)
+  pub tables : Cells.EntitiesWhole text k n t (entities_answer text k n t) k' n' t'
+  pub written : sizes' ≡ entities_sizes_after (entities_answer text k n t) sizes
 
 pub record JudgeCall (log k n t : List ℕ) (r : ℕ) (k' n' t' : List ℕ) : Type 0 where
   pub answer : r ≡ of_judged (judge_answer log k n t)

@@ -5,10 +5,10 @@
 
 ghost use Rattle.std.specs.Prelude.{◌≡◌};
 ghost use Rattle.chars.specs.Utf8.{utf8};
-ghost use Rattle.lulzhemor.specs.Answer.{refused_answer, counted_answer};
-ghost use Rattle.lulzhemor.specs.Calls.{CutCall, DecodeCall, SpellCall, ReadCall, JudgeCall, MergeCall, ListCall};
+ghost use Rattle.lulzhemor.specs.Answer.{refused_answer, counted_answer, both_sizes};
+ghost use Rattle.lulzhemor.specs.Calls.{CutCall, DecodeCall, SpellCall, ReadCall, EntitiesCall, JudgeCall, MergeCall, ListCall};
 
-use format::{Log, Refusal};
+use format::{Log, Reach, Refusal};
 
 // Refusal n is this number and n: no success is as large.
 const REFUSED: u64 = 4_294_967_296;
@@ -16,6 +16,8 @@ const REFUSED: u64 = 4_294_967_296;
 const EVENT: u64 = 1;
 
 const BLANK: u64 = 0;
+// A text of entities JSON has a pack.
+const PACK: u64 = 1;
 // The line of a refusal counts so many times: its number is less.
 const PER_LINE: u64 = 256;
 // The log of a refusal, where two are merged, counts 2^26 times: what its line counts is less.
@@ -36,6 +38,13 @@ fn counted(r: Result<usize, Refusal>) -> u64
         Ok(count) => count as u64,
         Err(refusal) => refused(refusal),
     }
+}
+
+// A pack's sizes, as the array that is lent for them has them.
+fn sizes_of(reach: Reach) -> [u64; Log::FRONT]
+    ensures { result ≡ both_sizes reach }
+{
+    [reach.nodes as u64, reach.texts as u64]
 }
 
 // Is the text UTF-8?
@@ -85,10 +94,31 @@ pub extern "C" fn lulzhemor_read_line(
 {
     match lines::read_line(kinds, numbers, texts, line) {
         Ok(Some(reach)) => {
-            *sizes = [reach.nodes as u64, reach.texts as u64];
+            *sizes = sizes_of(reach);
             EVENT
         }
         Ok(None) => BLANK,
+        Err(refusal) => refused(refusal),
+    }
+}
+
+// Reads entities JSON into a pack: PACK, and the two sizes are its nodes and text bytes; or a refusal, and the sizes are unchanged.
+#[unsafe(no_mangle)]
+pub extern "C" fn lulzhemor_read_entities(
+    kinds: &mut [u8],
+    numbers: &mut [u64],
+    texts: &mut [u8],
+    sizes: &mut [u64; Log::FRONT],
+    text: &[u8],
+) -> u64
+    ensures { EntitiesCall text.now kinds.old numbers.old texts.old sizes.old
+        result kinds.new numbers.new texts.new sizes.new }
+{
+    match json_entities::read_entities(kinds, numbers, texts, text) {
+        Ok(reach) => {
+            *sizes = sizes_of(reach);
+            PACK
+        }
         Err(refusal) => refused(refusal),
     }
 }

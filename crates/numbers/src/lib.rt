@@ -17,7 +17,7 @@ const MIN_MAGNITUDE: u64 = i64::MAX as u64 + 1;
 const FULL: u64 = MIN_MAGNITUDE / 10;
 
 // Where the digits from `from` on end. Not by `buffers::find_from`: `from` may lie past the end.
-fn digits_end(s: &[u8], from: usize) -> usize
+pub fn digits_end(s: &[u8], from: usize) -> usize
     ensures { result ≡ from + leading_digits (drop from s.now) }
 {
     for i in from..s.len() {

@@ -51,6 +51,10 @@ IsRead answer (Ok (Some sizes)) = HasPack answer sizes
 IsRead answer (Ok None) = IsAnswer answer 1 2 0
 IsRead answer (Err e) = Refuses answer e
 
+abbrev pub IsCells : List ℕ → Result Reach Refusal → Type 0
+IsCells answer (Ok sizes) = HasPack answer sizes
+IsCells answer (Err e) = Refuses answer e
+
 abbrev pub IsListed : List ℕ → Result (Option ℕ) Refusal → Type 0
 IsListed answer (Ok (Some n)) = HasText answer n
 IsListed answer (Ok None) = IsAnswer answer 1 2 0

@@ -5,7 +5,7 @@
 ghost use Rattle.std.specs.Prelude.{◌≡◌};
 ghost use Rattle.vectors.specs.Looks.{unwritten};
 
-pub const GROUP: usize = 10;
+pub const GROUP: usize = 11;
 
 pub const KINDS: usize = 1;
 

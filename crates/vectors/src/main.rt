@@ -11,6 +11,7 @@ ghost use Rattle.vectors.specs.Tallies.{counted};
 
 mod answers;
 mod cases;
+mod cells_cases;
 mod chars_cases;
 mod control;
 mod cuts_cases;
@@ -84,6 +85,7 @@ fn lent_asked(q: Question) -> bool {
         7 => logs_cases::agrees(lengths, q.case),
         8 => listings_cases::agrees(lengths, q.case),
         9 => merges_cases::agrees(lengths, q.case),
+        10 => cells_cases::agrees(lengths, q.case),
         _ => false,
     }
 }

@@ -1,0 +1,19 @@
+pub mod Mapped
+pub mod JsonSteps
+pub mod ValueAlong
+pub mod ValueItems
+pub mod ValueFields
+pub mod ValueForms
+pub mod ValueScalars
+pub mod ValueNames
+pub mod UidLaws
+pub mod UidLaid
+pub mod UidParents
+pub mod EntryParts
+pub mod EntryMembers
+pub mod EntryStored
+pub mod EntryItems
+pub mod Finish
+pub mod JsonWeights
+pub mod EntryBounds
+mod Examples
