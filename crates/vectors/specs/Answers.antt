@@ -1,6 +1,6 @@
 -- What an answer of the oracle says, by its bytes.
 -- Assumes nothing.
-use Rattle.std.specs.Prelude.{◌≡◌, ◌==◌, if◌then◌else◌, ℕ, ◌+◌, ◌*◌, List, [], length, take, drop, slice_index, Option, None, Some, Result, Ok, Err}
+use Rattle.std.specs.Prelude.{◌≡◌, ◌==◌, if◌then◌else◌, ℕ, ◌+◌, ◌*◌, List, [], ◌∷◌, length, take, drop, slice_index, Option, None, Some, Result, Ok, Err}
 use Rattle.std.specs.Int.{w32, w64, from_le_bytes}
 use Rattle.format.specs.Refusals.{number}
 use Rattle.format.specs.declared.Reach.{Reach}
@@ -45,6 +45,13 @@ abbrev pub IsWritten : ℕ → Result ℕ Refusal → Result (List ℕ) (Option 
 IsWritten size (Ok n) (Ok text) = n * size ≡ length text
 IsWritten size (Err e) (Err n) = n ≡ Some (number e)
 IsWritten size _ _ = ⊥
+
+-- what is expected of a call that is to be refused: the refusal of the answer's one byte; of no byte, that nothing is written; of more, what no
+-- call gives
+abbrev pub expected_refusal : List ℕ → Result (List ℕ) (Option ℕ)
+expected_refusal [] = Ok []
+expected_refusal (n ∷ []) = Err (Some n)
+expected_refusal (n ∷ m ∷ r) = Err None
 
 abbrev pub IsRead : List ℕ → Result (Option Reach) Refusal → Type 0
 IsRead answer (Ok (Some sizes)) = HasPack answer sizes

@@ -1,8 +1,10 @@
 // A case, and what its answer says.
 ghost use Rattle.std.specs.Prelude.{◌≡◌, ◌≢◌, ◌↔◌, IsTrue, MatchOption, [], ◌∷◌, length, drop};
-ghost use Rattle.vectors.specs.Answers.{IsAnswer, IsNumber, HasText, Refuses, text_of};
+ghost use Rattle.std.specs.Result.{result_map_both};
+ghost use Rattle.vectors.specs.Answers.{IsAnswer, IsNumber, HasText, Refuses, text_of, expected_refusal};
 ghost use Rattle.vectors.specs.Looks.{look_at, HoldsOutput};
 
+use crate::answers::Expected;
 use crate::control::Look;
 use crate::{answers, control, little};
 use format::Refusal;
@@ -78,6 +80,16 @@ impl<'a> Case<'a> {
             [number] => Some(*number),
             _ => None,
         }
+    }
+
+    // What is expected of a call that is to be refused: the refusal that the answer is; nothing written where the answer is empty.
+    pub fn expected_refusal(self) -> Expected<'a>
+        ensures { result_map_both (λ text. text.now) (λ n. n) result ≡ expected_refusal self.entry.answer.now }
+    {
+        if self.answer.is_empty() {
+            return Ok(self.answer);
+        }
+        Err(self.refusal())
     }
 
     // The look of this case at a table that is cleared before the place `used`.

@@ -17,8 +17,8 @@ fn same_cells(read: Result<Reach, Refusal>, case: Case) -> bool
     }
 }
 
-pub fn agrees(lengths: TableLengths, case: Case) -> bool {
-    let mut lent = Lent::new();
+pub fn agrees(lent: &mut Lent, lengths: TableLengths, case: Case) -> bool {
+    lent.refill();
     let (kinds, numbers, texts) = lent.parts(lengths);
     let read = json_entities::read_entities(kinds, numbers, texts, case.input);
     same_cells(read, case) & lent.left_by(case, case.text())

@@ -42,7 +42,7 @@ pub fn agrees(op: usize, case: Case) -> bool {
         4 => cuts::top_level_char(input, b'{'),
         5 => cuts::split_top_level_once(input),
         6 => cuts::find_unescaped_quote(input),
-        7 => return cut_in(PLACES, case, Err(case.refusal())),
+        7 => return cut_in(PLACES, case, case.expected_refusal()),
         _ => return false,
     };
     case.is_number(5, place.map(|at| at as u64))

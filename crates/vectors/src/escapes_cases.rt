@@ -20,7 +20,7 @@ fn key_case(case: Case, size: u64, expected: Expected) -> bool {
 
 pub fn agrees(op: usize, case: Case) -> bool {
     let text = Ok(case.answer);
-    let refusal = Err(case.refusal());
+    let refusal = case.expected_refusal();
     match op {
         1 => decode_case(case, text),
         2 => key_case(case.behind(2), little::two(case.input, 0), text),

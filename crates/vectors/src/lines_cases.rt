@@ -18,8 +18,8 @@ fn same_line(read: Result<Option<Reach>, Refusal>, case: Case) -> bool
     }
 }
 
-pub fn agrees(lengths: TableLengths, case: Case) -> bool {
-    let mut lent = Lent::new();
+pub fn agrees(lent: &mut Lent, lengths: TableLengths, case: Case) -> bool {
+    lent.refill();
     let (kinds, numbers, texts) = lent.parts(lengths);
     let read = lines::read_line(kinds, numbers, texts, case.input);
     same_line(read, case) & lent.left_by(case, case.text())

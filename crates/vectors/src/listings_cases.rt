@@ -19,11 +19,11 @@ fn same_listed(listed: Result<Option<usize>, Refusal>, case: Case) -> bool
 }
 
 // The event's number in eight bytes, the length of the output in four, then the line.
-pub fn agrees(lengths: TableLengths, case: Case) -> bool {
+pub fn agrees(lent: &mut Lent, lengths: TableLengths, case: Case) -> bool {
     let number = little::eight(case.input, 0);
     let room = little::four(case.input, 8) as usize;
     let line = little::rest_of(case.input, 12);
-    let mut lent = Lent::new();
+    lent.refill();
     let mut out = [77u8; answers::OUTPUT];
     let (kinds, numbers, texts) = lent.parts(lengths);
     let part = little::lent_part(&mut out, room);

@@ -25,8 +25,8 @@ fn same_judged(judged: Result<usize, LineRefusal>, case: Case) -> bool
     }
 }
 
-pub fn agrees(lengths: TableLengths, case: Case) -> bool {
-    let mut lent = Lent::new();
+pub fn agrees(lent: &mut Lent, lengths: TableLengths, case: Case) -> bool {
+    lent.refill();
     let (kinds, numbers, texts) = lent.parts(lengths);
     let judged = logs::judge(kinds, numbers, texts, case.input);
     same_judged(judged, case) & lent.left_by(case, &[])

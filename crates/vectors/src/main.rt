@@ -29,7 +29,7 @@ mod values_cases;
 use crate::cases::Case;
 use crate::control::GROUP;
 use crate::input::{read_number, read_text};
-use crate::packs::TableLengths;
+use crate::packs::{Lent, TableLengths};
 use std::io;
 use std::io::{Print, Read};
 
@@ -76,29 +76,29 @@ fn question_of(read: Question) -> Question
 }
 
 // Does our function give this answer, with tables lent as the op says? Each case has data of its own, as in `asked`.
-fn lent_asked(q: Question) -> bool {
+fn lent_asked(lent: &mut Lent, q: Question) -> bool {
     let Some(lengths) = TableLengths::by_op(q.op) else {
         return false;
     };
     match q.group {
-        6 => lines_cases::agrees(lengths, q.case),
-        7 => logs_cases::agrees(lengths, q.case),
-        8 => listings_cases::agrees(lengths, q.case),
-        9 => merges_cases::agrees(lengths, q.case),
-        10 => cells_cases::agrees(lengths, q.case),
+        6 => lines_cases::agrees(lent, lengths, q.case),
+        7 => logs_cases::agrees(lent, lengths, q.case),
+        8 => listings_cases::agrees(lent, lengths, q.case),
+        9 => merges_cases::agrees(lent, lengths, q.case),
+        10 => cells_cases::agrees(lent, lengths, q.case),
         _ => false,
     }
 }
 
 // Does our function give this answer? Each case reads data of its own, so that a table of functions would be no plainer.
-fn asked(q: Question) -> bool {
+fn asked(lent: &mut Lent, q: Question) -> bool {
     match q.group {
         1 => chars_cases::agrees(q.op, q.case),
         2 => numbers_cases::agrees(q.op, q.case),
         3 => cuts_cases::agrees(q.op, q.case),
         4 => escapes_cases::agrees(q.op, q.case),
-        5 => (q.op == 1) & values_cases::agrees(q.case),
-        _ => lent_asked(q),
+        5 => (q.op == 1) & values_cases::agrees(lent, q.case),
+        _ => lent_asked(lent, q),
     }
 }
 
@@ -124,28 +124,32 @@ fn counted(tally: Tally, same: Option<bool>) -> Tally
     }
 }
 
-// Reads one case of a group. Does its answer agree? None where the input has it not whole. One call serves the control and the others, so
-// that a comparison that does nothing shows.
+// Reads one case of a group. Does its answer agree? None where the input has it not whole, or where it is too long; both texts are read all the
+// same, each as far as its buffer holds it, and the next section begins behind that. One call serves the control and the others, so that a
+// comparison that does nothing shows.
 fn replay_case(
     reader: &mut impl Read,
     group: usize,
     input: &mut [u8; LONGEST],
     answer: &mut [u8; LONGEST],
+    lent: &mut Lent,
 ) -> Option<bool> {
-    let op = read_number(reader, 1)?;
-    let given = read_text(reader, input)?;
-    let expected = read_text(reader, answer)?;
+    let op = read_number(reader, 1);
+    let given = read_text(reader, input);
+    let expected = read_text(reader, answer);
     let case = Case {
-        input: little::first_part(input, given),
-        answer: little::first_part(answer, expected),
+        input: little::first_part(input, given?),
+        answer: little::first_part(answer, expected?),
         wrong: 0,
     };
-    Some(asked(question_of(Question { group, op, case })))
+    let op = op?;
+    Some(asked(lent, question_of(Question { group, op, case })))
 }
 
 fn replay_section(reader: &mut impl Read, group: usize, count: usize) -> Tally {
     let mut input = [0u8; LONGEST];
     let mut answer = [0u8; LONGEST];
+    let mut lent = Lent::new();
     let mut tally = Tally {
         cases: 0,
         differ: 0,
@@ -153,7 +157,7 @@ fn replay_section(reader: &mut impl Read, group: usize, count: usize) -> Tally {
         whole: true,
     };
     for _ in 0..count {
-        let same = replay_case(reader, group, &mut input, &mut answer);
+        let same = replay_case(reader, group, &mut input, &mut answer, &mut lent);
         tally = counted(tally, same);
         if !tally.whole {
             return tally;

@@ -29,12 +29,12 @@ fn same_merged(merged: Result<usize, MergeRefusal>, case: Case) -> bool
 }
 
 // The lengths of the output and of the first log in four bytes each, then both logs.
-pub fn agrees(lengths: TableLengths, case: Case) -> bool {
+pub fn agrees(lent: &mut Lent, lengths: TableLengths, case: Case) -> bool {
     let room = little::four(case.input, 0) as usize;
     let size = little::four(case.input, 4) as usize;
     let first = little::part(case.input, 8, size);
     let second = little::rest_of(case.input, 8 + size);
-    let mut lent = Lent::new();
+    lent.refill();
     let mut out = [77u8; OUTPUT];
     let (kinds, numbers, texts) = lent.parts(lengths);
     let part = little::lent_part(&mut out, room);

@@ -62,7 +62,7 @@ impl TableLengths {
     }
 }
 
-// The tables, made anew for each case.
+// The tables. They are made once for a section and filled anew for each case: made for each, they would be copied once or twice.
 #[derive(Drop)]
 pub struct Lent {
     pub kinds: [u8; KINDS],
@@ -81,6 +81,17 @@ impl Lent {
             numbers: [77; NUMBERS],
             texts: [77; TEXTS],
         }
+    }
+
+    // As they were made, whatever a case has left in them.
+    pub fn refill(&mut self)
+        ensures kinds { self.new.kinds ≡ replicate KINDS 77 }
+        ensures numbers { self.new.numbers ≡ replicate NUMBERS 77 }
+        ensures texts { self.new.texts ≡ replicate TEXTS 77 }
+    {
+        self.kinds.fill(77);
+        self.numbers.fill(77);
+        self.texts.fill(77);
     }
 
     // What a call is lent: the first entries of each table.

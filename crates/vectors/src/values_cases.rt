@@ -21,11 +21,11 @@ fn same_value(read: Result<Reach, Refusal>, lent: &Lent, case: Case) -> bool
     }
 }
 
-pub fn agrees(case: Case) -> bool {
+pub fn agrees(lent: &mut Lent, case: Case) -> bool {
     if case.input.len() > Log::LINE_LIMIT {
         return false;
     }
-    let mut lent = Lent::new();
+    lent.refill();
     let mut links = [77u16; Log::LINKS];
     let mut tables = Tables {
         kinds: &mut lent.kinds,
@@ -35,5 +35,5 @@ pub fn agrees(case: Case) -> bool {
     };
     let read = values::parse_value(&mut tables, &mut links, case.input);
     let reach = tables.reach;
-    same_value(read.map(|_| reach), &lent, case)
+    same_value(read.map(|_| reach), lent, case)
 }

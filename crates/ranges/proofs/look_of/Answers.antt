@@ -1,6 +1,11 @@
 -- `ranges::look_of` meets its contract: each return is a law of Looks.
 -- Assumes nothing.
-use mathlib.Core.Path.{sym}
+use mathlib.Core.Path.{◌≡◌, refl, sym, subst}
+use mathlib.Core.List.{List}
+use Prim.Native.Nat.{ℕ}
+use Rattle.ranges.specs.Ranges.{Ascending}
+use Rattle.ranges.specs.Common.{common}
+use Rattle.ranges.specs.declared.TheConstants.{COMMON}
 use Rattle.ranges.proofs.Stretches.{delete_hidden, common_anywhere, common_first, common_ascending}
 use Rattle.ranges.proofs.BothAscending.{escaped_anywhere_ascending, first_only_ascending}
 use Rattle.ranges.proofs.Looks.{anywhere_number, neither_itself, as_first_number, later_itself, lent_test, lent_both}
@@ -12,13 +17,18 @@ returns-then-c-lt161 c =
     let a = c.args in
     sym (anywhere_number a.first a.c (delete_hidden a.c c.requires.1 c.if-c-lt161.true))
 
+-- the table of the code is that of the definition
+common_here : COMMON ≡ common
+unfolding common
+common_here = refl
+
 pub in_ranges-requires : goal.in_ranges-requires
-in_ranges-requires c = rw c.requires.0.0 common_ascending
+in_ranges-requires c = subst (λ (l : List ℕ). Ascending l) (sym common_here) common_ascending
 
 pub returns-then-in_ranges : goal.returns-then-in_ranges
 returns-then-in_ranges c =
     let a = c.args in
-    let m = lent_test a.c c.requires.0.0 c.in_ranges.ensures c.if-in_ranges.true in
+    let m = lent_test a.c common_here c.in_ranges.ensures c.if-in_ranges.true in
     sym (neither_itself a.first a.c (common_anywhere a.c m) (common_first a.c m))
 
 pub in_ranges-requires-2 : goal.in_ranges-requires-2
